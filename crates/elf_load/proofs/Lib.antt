@@ -1,0 +1,2 @@
+pub mod OneHeader
+pub mod Starts

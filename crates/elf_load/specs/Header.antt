@@ -1,0 +1,56 @@
+-- The fields of an ELF-64 file (ELF-64 Object File Format, "ELF Header" and "Program Header Table").
+use Rattle.std.specs.Prelude.{ℕ, zero, suc, ◌+◌, ◌*◌, List, [], ◌∷◌, slice_index}
+
+-- the little-endian number of so many bytes from a place on
+abbrev pub number_at : List ℕ → (place count : ℕ) → ℕ
+number_at file place zero = 0
+number_at file place (suc count) = slice_index file place + 256 * number_at file (place + 1) count
+
+abbrev pub e_type : List ℕ → ℕ
+e_type file = number_at file 16 2
+
+abbrev pub e_machine : List ℕ → ℕ
+e_machine file = number_at file 18 2
+
+abbrev pub e_entry : List ℕ → ℕ
+e_entry file = number_at file 24 8
+
+abbrev pub e_phoff : List ℕ → ℕ
+e_phoff file = number_at file 32 8
+
+abbrev pub e_flags : List ℕ → ℕ
+e_flags file = number_at file 48 4
+
+abbrev pub e_phentsize : List ℕ → ℕ
+e_phentsize file = number_at file 54 2
+
+abbrev pub e_phnum : List ℕ → ℕ
+e_phnum file = number_at file 56 2
+
+-- a program header, but for its flags and its alignment, which place nothing
+pub record Header : Type 0 where
+  pub p_type : ℕ
+  pub p_offset : ℕ
+  pub p_vaddr : ℕ
+  pub p_paddr : ℕ
+  pub p_filesz : ℕ
+  pub p_memsz : ℕ
+
+abbrev pub header_at : List ℕ → (place : ℕ) → Header
+header_at file place = record {
+    p_type = number_at file place 4;
+    p_offset = number_at file (place + 8) 8;
+    p_vaddr = number_at file (place + 16) 8;
+    p_paddr = number_at file (place + 24) 8;
+    p_filesz = number_at file (place + 32) 8;
+    p_memsz = number_at file (place + 40) 8
+  }
+
+-- so many headers of 56 bytes from a place on
+unfoldable pub headers_from : List ℕ → (place count : ℕ) → List Header
+headers_from file place zero = []
+headers_from file place (suc count) = header_at file place ∷ headers_from file (place + 56) count
+
+-- the table, in order
+abbrev pub headers : List ℕ → List Header
+headers file = headers_from file (e_phoff file) (e_phnum file)

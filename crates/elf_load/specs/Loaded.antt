@@ -1,0 +1,11 @@
+-- What an image is to a contract: where the machine starts, and what its parts put into memory.
+use Rattle.std.specs.Prelude.{ℕ, List}
+use Rattle.elf_load.specs.declared.image.Part.{Part}
+use Rattle.elf_load.specs.declared.image.Image.TheInside.{Inside}
+
+pub record Loaded : Type 0 where
+  pub start : ℕ
+  pub parts : List Part
+
+abbrev pub loaded_by : Inside → Loaded
+loaded_by image = record { start = image.start; parts = image.parts.items }

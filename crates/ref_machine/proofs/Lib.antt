@@ -1,0 +1,11 @@
+pub mod Harts
+pub mod Plainly
+pub mod Grows
+pub mod Rows
+pub mod Uniform
+pub mod Reading
+pub mod Bare
+pub mod First
+pub mod Served
+pub mod Turns
+pub mod Runs

@@ -1,0 +1,18 @@
+-- The instructions that `plan` and `finish` serve so far.
+use Rattle.std.specs.Prelude.{◌≡◌, ◌⊎◌, ℕ, Bool, true, false}
+use Rattle.rv64_decode.specs.declared.Instr.{Instr}
+use Rattle.rv64_decode.specs.declared.Instr.TheVariants.{Lui, Addi, Sb, Sw}
+use Rattle.rv64_exec.specs.declared.needs.Need.{Need}
+
+abbrev pub is_built : Instr → Bool
+is_built (Lui rd imm) = true
+is_built (Addi rd rs1 imm) = true
+is_built (Sb rs1 rs2 imm) = true
+is_built (Sw rs1 rs2 imm) = true
+is_built _ = false
+
+-- they need nothing, or a store of 1 or 4 bytes
+abbrev pub IsBuiltNeed : Need → Type 0
+IsBuiltNeed Need.Nothing = Unit {0}
+IsBuiltNeed (Need.Store va width value) = (width ≡ 1) ⊎ (width ≡ 4)
+IsBuiltNeed _ = ⊥

@@ -1,0 +1,5 @@
+pub mod Alu
+pub mod Built
+pub mod Code
+pub mod Plan
+pub mod Finish

@@ -1,0 +1,12 @@
+//! What an instruction needs of the machine, and what it leaves of its hart (RISC-V Unprivileged ISA,
+//! "RV32I Base Integer Instruction Set", "RV64I Base Integer Instruction Set").
+#![tactic(auto)]
+
+mod finishing;
+mod needs;
+mod planning;
+
+pub use finishing::finish;
+pub use needs::{AmoOp, Answer, FlushOf, IpiOp, Need};
+pub use planning::{is_built, plan};
+pub use rv64_priv::{Arch, Hold, Kind, Regime};
