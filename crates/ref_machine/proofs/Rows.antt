@@ -1,8 +1,8 @@
 -- The guest that prints OK, as equations that compute.
 use Rattle.std.proofs.Common.{◌≡◌, refl, ℕ, ◌≤◌, ◌<◌, ◌-◌, ◌+◌, ◌*◌, List, [], ◌∷◌, Some, None, Option, true, false, length, cond, eqb, lit<, ℤ, pos, negsuc, arith}
 use Rattle.elf_load.specs.declared.image.Part.{Part}
-use Rattle.rv64_decode.specs.declared.Instr.{Instr}
-use Rattle.rv64_decode.specs.declared.Instr.TheVariants.{Lui, Addi, Sb, Sw, Ld, Sd, Csrrw}
+use Rattle.rv64_decode.specs.declared.instruction.Instr.{Instr}
+use Rattle.rv64_decode.specs.declared.instruction.Instr.TheVariants.{Lui, Addi, Sb, Sw, Ld, Sd, Csrrw}
 use Rattle.rv64_decode.specs.Encoding.{encoding_of}
 use Rattle.rv64_priv.specs.declared.state.Arch.{Arch}
 use Rattle.rv64_priv.specs.Walk.{walk_of}

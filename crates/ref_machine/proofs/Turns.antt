@@ -2,7 +2,7 @@
 use Rattle.std.proofs.Common.{inl, inr, ◌≡◌, refl, ℕ, zero, suc, ◌≤◌, ◌<◌, ◌+◌, ◌-◌, ◌*◌, ◌/◌, ◌%◌, ◌^◌, ◌++◌, List, [], ◌∷◌, Some, None, Option, true, false, Bool, not, ◌&&◌, ◌||◌, length, arith, ap, sym, ◌∙◌, subst, option_to_list}
 use Rattle.std.specs.Prelude.{◌⊎◌, MatchBool, IsSome, ◌==◌, is_some, nat_le, nat_lt, if◌then◌else◌, slice_index, replicate}
 use Rattle.std.proofs.lemmas.Bool.{leb-true, ltb-true}
-use Rattle.rv64_decode.specs.declared.Instr.{Instr}
+use Rattle.rv64_decode.specs.declared.instruction.Instr.{Instr}
 use Rattle.rv64_decode.specs.Encoding.{Decodes}
 use Rattle.rv64_priv.specs.declared.state.Arch.{Arch}
 use Rattle.rv64_priv.specs.declared.state.Kind.{Kind}

@@ -1,6 +1,6 @@
 -- What the machine on one thread keeps, and what one turn of hart 0 makes of it.
 use Rattle.std.specs.Prelude.{◌≡◌, ℕ, zero, suc, ◌+◌, ◌-◌, ◌*◌, ◌/◌, ◌%◌, ◌^◌, ◌≤◌, ◌<◌, Bool, true, false, ◌&&◌, ◌==◌, nat_lt, nat_le, if◌then◌else◌, List, [], ◌∷◌, ◌++◌, length, Option, Some, None, IsNone, slice_index, slice_set, vec_len, vec_capacity}
-use Rattle.rv64_decode.specs.declared.Instr.{Instr}
+use Rattle.rv64_decode.specs.declared.instruction.Instr.{Instr}
 use Rattle.rv64_decode.specs.Encoding.{Decodes}
 use Rattle.rv64_priv.specs.declared.state.Arch.{Arch}
 use Rattle.rv64_exec.specs.declared.needs.Need.{Need}

@@ -1,7 +1,7 @@
 -- The instructions that `plan` and `finish` serve so far.
 use Rattle.std.specs.Prelude.{◌≡◌, ◌⊎◌, ℕ, Bool, true, false}
-use Rattle.rv64_decode.specs.declared.Instr.{Instr}
-use Rattle.rv64_decode.specs.declared.Instr.TheVariants.{Lui, Addi, Sb, Sw}
+use Rattle.rv64_decode.specs.declared.instruction.Instr.{Instr}
+use Rattle.rv64_decode.specs.declared.instruction.Instr.TheVariants.{Lui, Addi, Sb, Sw}
 use Rattle.rv64_exec.specs.declared.needs.Need.{Need}
 
 abbrev pub is_built : Instr → Bool

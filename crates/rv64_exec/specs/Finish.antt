@@ -6,8 +6,8 @@ use Rattle.rv64_priv.specs.Csr.{csr_value, csr_written}
 use Rattle.rv64_priv.specs.Trap.{trapped, returned}
 use Rattle.rv64_priv.specs.declared.state.Hold.{Hold}
 use Rattle.rv64_exec.specs.Code.{Code}
-use Rattle.rv64_decode.specs.declared.Instr.{Instr}
-use Rattle.rv64_decode.specs.declared.Instr.TheVariants.{Lui, Auipc, Jal, Jalr, Lb, Lh, Lw, Ld, Lbu, Lhu, Lwu, Addi, Slti, Sltiu, Xori, Ori, Andi, Addiw, Slli, Srli, Srai, Slliw, Srliw, Sraiw, Beq, Bne, Blt, Bge, Bltu, Bgeu, Sb, Sh, Sw, Sd, Add, Sll, Slt, Sltu, Xor, Srl, Or, And, Sub, Sra, Mul, Mulh, Mulhsu, Mulhu, Div, Divu, Rem, Remu, Addw, Sllw, Srlw, Subw, Sraw, Mulw, Divw, Divuw, Remw, Remuw, Fence, Fencei, Ecall, Ebreak, Sret, Wfi, Sfencevma, Csrrw, Csrrs, Csrrc, Csrrwi, Csrrsi, Csrrci, Lr, Sc, Amoswap, Amoadd, Amoxor, Amoand, Amoor, Amomin, Amomax, Amominu, Amomaxu}
+use Rattle.rv64_decode.specs.declared.instruction.Instr.{Instr}
+use Rattle.rv64_decode.specs.declared.instruction.Instr.TheVariants.{Lui, Auipc, Jal, Jalr, Lb, Lh, Lw, Ld, Lbu, Lhu, Lwu, Addi, Slti, Sltiu, Xori, Ori, Andi, Addiw, Slli, Srli, Srai, Slliw, Srliw, Sraiw, Beq, Bne, Blt, Bge, Bltu, Bgeu, Sb, Sh, Sw, Sd, Add, Sll, Slt, Sltu, Xor, Srl, Or, And, Sub, Sra, Mul, Mulh, Mulhsu, Mulhu, Div, Divu, Rem, Remu, Addw, Sllw, Srlw, Subw, Sraw, Mulw, Divw, Divuw, Remw, Remuw, Fence, Fencei, Ecall, Ebreak, Sret, Wfi, Sfencevma, Csrrw, Csrrs, Csrrc, Csrrwi, Csrrsi, Csrrci, Lr, Sc, Amoswap, Amoadd, Amoxor, Amoand, Amoor, Amomin, Amomax, Amominu, Amomaxu}
 use Rattle.rv64_priv.specs.declared.state.Arch.{Arch}
 use Rattle.rv64_exec.specs.declared.needs.Need.{Need}
 use Rattle.rv64_exec.specs.declared.needs.Answer.{Answer}

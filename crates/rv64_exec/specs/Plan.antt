@@ -5,8 +5,8 @@ use Rattle.rv64_priv.specs.Bits.{is_set}
 use Rattle.rv64_priv.specs.Csr.{csr_value, sum_of, mxr_of, satp_takes}
 use Rattle.rv64_decode.specs.Encoding.{encoding_of}
 use Rattle.rv64_exec.specs.Code.{Code}
-use Rattle.rv64_decode.specs.declared.Instr.{Instr}
-use Rattle.rv64_decode.specs.declared.Instr.TheVariants.{Jal, Jalr, Lb, Lh, Lw, Ld, Lbu, Lhu, Lwu, Beq, Bne, Blt, Bge, Bltu, Bgeu, Sb, Sh, Sw, Sd, Ecall, Ebreak, Sret, Sfencevma, Csrrw, Csrrs, Csrrc, Csrrwi, Csrrsi, Csrrci, Lr, Sc, Amoswap, Amoadd, Amoxor, Amoand, Amoor, Amomin, Amomax, Amominu, Amomaxu}
+use Rattle.rv64_decode.specs.declared.instruction.Instr.{Instr}
+use Rattle.rv64_decode.specs.declared.instruction.Instr.TheVariants.{Jal, Jalr, Lb, Lh, Lw, Ld, Lbu, Lhu, Lwu, Beq, Bne, Blt, Bge, Bltu, Bgeu, Sb, Sh, Sw, Sd, Ecall, Ebreak, Sret, Sfencevma, Csrrw, Csrrs, Csrrc, Csrrwi, Csrrsi, Csrrci, Lr, Sc, Amoswap, Amoadd, Amoxor, Amoand, Amoor, Amomin, Amomax, Amominu, Amomaxu}
 use Rattle.rv64_priv.specs.declared.state.Arch.{Arch}
 use Rattle.rv64_exec.specs.declared.needs.AmoOp.{AmoOp}
 use Rattle.rv64_exec.specs.declared.needs.IpiOp.{IpiOp}
