@@ -1,0 +1,11 @@
+-- So many turns were taken, and the machine goes on.
+use Rattle.std.proofs.Common.{◌≡◌, ◌<◌, None}
+use Rattle.ref_machine.specs.Ran.{Ran}
+use Rattle.tlbvm.proofs.ending.take_turns.Given as goal
+
+abbrev pub invariant-loop-taken : goal.invariant-loop-taken
+invariant-loop-taken l = record {
+  hart : 0 < l.machine.harts;
+  going : l.machine.reason ≡ None;
+  ran : Ran l._taken l.fn.machine l.machine;
+}

@@ -1,0 +1,170 @@
+-- What a call on a `plain` line read, what it ran, what it wrote, and the cause of each answer.
+use Rattle.std.specs.Prelude.{◌≡◌, ◌≢◌, ◌⊎◌, ℕ, ◌<◌, ◌≤◌, List, length, take, replicate, Option, Some, None, IfSome, IsTrue, Ok}
+use Rattle.std.specs.Io.KnownBytes.{Appends}
+use Rattle.vm_io.specs.Faults.{Rose}
+use Rattle.elf_load.specs.Loaded.{Loaded}
+use Rattle.elf_load.specs.ImageOf.{image_of, is_built}
+use Rattle.step_laws.specs.declared.words.Layout.{Layout}
+use Rattle.ref_machine.specs.declared.reason.Reason.{Reason}
+use Rattle.ref_machine.specs.Event.{Event}
+use Rattle.ref_machine.specs.State.{Setup, initial}
+use Rattle.ref_machine.specs.Run.{state_of}
+use Rattle.ref_machine.specs.Lawful.{IsRun}
+use Rattle.ref_machine.specs.Plain.{IsPlainRun}
+use Rattle.ref_machine.specs.PlainState.{PlainState}
+use Rattle.ref_machine.specs.Shows.{Shows, setup_of}
+use Rattle.tlbvm.specs.declared.start.Refusal.{Refusal}
+use Rattle.tlbvm.specs.Line.{Operands}
+use Rattle.tlbvm.specs.Order.{order_of}
+use Rattle.tlbvm.specs.Report.{report_of}
+
+-- One hart, 1024 pages, and at most 50,000,000 instructions.
+abbrev pub plain_layout : Layout
+plain_layout = record { harts = 1; pages = 1024 }
+
+abbrev pub plain_setup : List ℕ → Loaded → Setup
+plain_setup file image = setup_of plain_layout file image 50000000
+
+-- THE FILES
+
+-- What a call may know of a name: its bytes, where they are told, and how often a read of it failed before and behind.
+pub record Name : Type 0 where
+  pub told : Option (List ℕ)
+  pub before : ℕ
+  pub behind : ℕ
+
+pub record Files : Type 0 where
+  pub elf : Name
+  pub order : Name
+
+abbrev pub name_of : {F : Type 0} → (F → List ℕ → Option (List ℕ)) → (F → List ℕ → ℕ) → (old new : F) → List ℕ → Name
+name_of told faults old new name = record { told = told old name; before = faults old name; behind = faults new name }
+
+abbrev pub files_of : {F : Type 0} → (F → List ℕ → Option (List ℕ)) → (F → List ℕ → ℕ) → (old new : F) → Operands → Files
+files_of told faults old new line = record { elf = name_of told faults old new line.elf; order = name_of told faults old new line.order }
+
+-- bytes that were read of a name: at most 64 MiB, and what is told of it, where that is told
+pub record WereRead (name : Name) (bytes : List ℕ) : Type 0 where
+  pub within : length bytes ≤ 67108864
+  pub as_told : IfSome name.told (λ told. bytes ≡ told)
+
+abbrev pub HasFailed : Name → Type 0
+HasFailed name = Rose name.before name.behind
+
+-- byte number 67,108,865 was read
+abbrev pub IsTooLong : Name → Type 0
+IsTooLong name = IfSome name.told (λ told. 67108864 < length told)
+
+-- the ELF file is accepted and of the built form
+pub record IsAccepted (elf : Name) : Type 0 where
+  pub file : List ℕ
+  pub were_read : WereRead elf file
+  pub image : Loaded
+  pub built : IsTrue (is_built file)
+  pub is_image : image_of file 1024 ≡ Ok image
+
+pub record IsUnbuiltFile (elf : Name) : Type 0 where
+  pub file : List ℕ
+  pub were_read : WereRead elf file
+  pub refused : IsTrue (is_built file) → (image : Loaded) → image_of file 1024 ≢ Ok image
+
+pub record IsUnbuiltOrder (order : Name) : Type 0 where
+  pub text : List ℕ
+  pub were_read : WereRead order text
+  pub refused : order_of text ≡ None
+
+-- why a call was refused before the machine's start: the ELF file is read and checked first, then the order
+abbrev pub CauseOf : Files → Refusal → Type 0
+CauseOf files Refusal.ReadFault = HasFailed files.elf ⊎ (IsAccepted files.elf × HasFailed files.order)
+CauseOf files Refusal.TooLong = IsTooLong files.elf ⊎ (IsAccepted files.elf × IsTooLong files.order)
+CauseOf files Refusal.Unbuilt = IsUnbuiltFile files.elf ⊎ (IsAccepted files.elf × IsUnbuiltOrder files.order)
+CauseOf files Refusal.NoMemory = Unit {0}
+
+-- THE MACHINE
+
+-- the machine was made from the files, and is at its first state
+pub record IsStarted (files : Files) (machine : PlainState) (turns : ℕ) : Type 0 where
+  pub file : List ℕ
+  pub text : List ℕ
+  pub file_read : WereRead files.elf file
+  pub text_read : WereRead files.order text
+  pub image : Loaded
+  pub built : IsTrue (is_built file)
+  pub is_image : image_of file 1024 ≡ Ok image
+  pub is_order : order_of text ≡ Some turns
+  pub first : Shows (plain_setup file image) machine (initial (plain_setup file image))
+
+-- One run of the reference machine from the image of the ELF file: the plain run of the order. This is its first reason,
+-- if it has one, and its output.
+pub record OneRun (files : Files) (reason : Option Reason) (output : List ℕ) : Type 0 where
+  pub file : List ℕ
+  pub text : List ℕ
+  pub file_read : WereRead files.elf file
+  pub text_read : WereRead files.order text
+  pub image : Loaded
+  pub built : IsTrue (is_built file)
+  pub is_image : image_of file 1024 ≡ Ok image
+  pub turns : ℕ
+  pub is_order : order_of text ≡ Some turns
+  pub run : List Event
+  pub is_run : IsRun (plain_setup file image) run
+  pub is_plain : IsPlainRun (plain_setup file image) (replicate turns 0) run
+  pub is_reason : (state_of (plain_setup file image) run).reason ≡ reason
+  pub is_output : (state_of (plain_setup file image) run).output ≡ output
+
+-- WHAT WAS WRITTEN
+
+-- A sink before and behind a call: the bytes that it took, where they are told, and how often it failed.
+pub record Written : Type 0 where
+  pub old : Option (List ℕ)
+  pub new : Option (List ℕ)
+  pub before : ℕ
+  pub behind : ℕ
+
+abbrev pub written_of : {S : Type 0} → (S → Option (List ℕ)) → (S → ℕ) → (old new : S) → Written
+written_of taken faults old new = record { old = taken old; new = taken new; before = faults old; behind = faults new }
+
+abbrev pub Gets : Written → List ℕ → Type 0
+Gets sink bytes = Appends sink.old sink.new bytes
+
+abbrev pub GetsNothing : Written → Type 0
+GetsNothing sink = sink.new ≡ sink.old
+
+-- a sink failed, and took a prefix
+pub record GetsPart (sink : Written) (bytes : List ℕ) : Type 0 where
+  pub count : ℕ
+  pub part : count ≤ length bytes
+  pub gets : Gets sink (take count bytes)
+  pub failed : Rose sink.before sink.behind
+
+-- THE CALL
+
+pub record Call : Type 0 where
+  pub files : Files
+  pub out : Written
+  pub log : Written
+
+abbrev pub call_of : {F O L : Type 0} → (F → List ℕ → Option (List ℕ)) → (F → List ℕ → ℕ) → (O → Option (List ℕ)) → (O → ℕ) → (L → Option (List ℕ)) → (L → ℕ)
+    → (images images' : F) → (out out' : O) → (log log' : L) → Operands → Call
+call_of told failed out_taken out_failed log_taken log_failed images images' out out' log log' line =
+    record { files = files_of told failed images images' line; out = written_of out_taken out_failed out out'; log = written_of log_taken log_failed log log' }
+
+-- a machine that ended with this first reason: `out` got its output, and `log` its report
+pub record HasEnded (reason : Option Reason) (call : Call) : Type 0 where
+  pub output : List ℕ
+  pub one_run : OneRun call.files reason output
+  pub out_gets : Gets call.out output
+  pub log_gets : Gets call.log (report_of reason)
+
+-- a machine that ended, and a sink that failed: `log` gets nothing until `out` is whole
+pub record IsCutShort (call : Call) : Type 0 where
+  pub reason : Option Reason
+  pub output : List ℕ
+  pub one_run : OneRun call.files reason output
+  pub cut : (GetsPart call.out output × GetsNothing call.log) ⊎ (Gets call.out output × GetsPart call.log (report_of reason))
+
+-- a refusal before the start: nothing is written
+pub record IsRefused (refusal : Refusal) (call : Call) : Type 0 where
+  pub cause : CauseOf call.files refusal
+  pub out_gets : GetsNothing call.out
+  pub log_gets : GetsNothing call.log

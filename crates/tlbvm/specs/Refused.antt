@@ -1,0 +1,13 @@
+-- The refusals that the errors of reading and of parsing become.
+use Rattle.vm_io.specs.declared.read.ReadErr.{ReadErr}
+use Rattle.elf_load.specs.declared.image.ImageErr.{ImageErr}
+use Rattle.tlbvm.specs.declared.start.Refusal.{Refusal}
+
+abbrev pub refusal_of_read : ReadErr → Refusal
+refusal_of_read ReadErr.ReadFault = Refusal.ReadFault
+refusal_of_read ReadErr.TooLong = Refusal.TooLong
+refusal_of_read ReadErr.NoMemory = Refusal.NoMemory
+
+abbrev pub refusal_of_image : ImageErr → Refusal
+refusal_of_image ImageErr.Unbuilt = Refusal.Unbuilt
+refusal_of_image ImageErr.NoMemory = Refusal.NoMemory

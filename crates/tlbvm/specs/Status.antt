@@ -1,0 +1,45 @@
+-- The exit codes and lines of the statuses, and the status of a machine that has ended.
+use Rattle.std.specs.Prelude.{ℕ, List, ◌++◌, Option, Some, None, codes, decimal}
+use Rattle.ref_machine.specs.declared.reason.Reason.{Reason}
+use Rattle.tlbvm.specs.declared.status.Status.{Status}
+
+abbrev pub exit_code_of : Status → ℕ
+exit_code_of Status.Done = 0
+exit_code_of Status.Usage = 2
+exit_code_of Status.ReadFault = 3
+exit_code_of Status.TooLong = 4
+exit_code_of Status.WriteFault = 9
+exit_code_of Status.NoMemory = 10
+exit_code_of (Status.GuestFailed code) = 11
+exit_code_of (Status.Limit hart) = 12
+exit_code_of Status.OutFull = 13
+exit_code_of Status.AllStopped = 14
+exit_code_of Status.OrderEnd = 15
+exit_code_of Status.Stopped = 16
+exit_code_of Status.Unbuilt = 17
+
+abbrev pub status_text : Status → List ℕ
+status_text Status.Done = codes "done"
+status_text Status.Usage = codes "usage: tlbvm plain, sched, run, churn, asm, dis or gen"
+status_text Status.ReadFault = codes "read failed"
+status_text Status.TooLong = codes "file too long"
+status_text Status.WriteFault = codes "write failed"
+status_text Status.NoMemory = codes "out of memory"
+status_text (Status.GuestFailed code) = codes "guest failed: " ++ decimal code
+status_text (Status.Limit hart) = codes "limit: hart " ++ decimal hart
+status_text Status.OutFull = codes "output full"
+status_text Status.AllStopped = codes "all harts stopped"
+status_text Status.OrderEnd = codes "order ended"
+status_text Status.Stopped = codes "stopped"
+status_text Status.Unbuilt = codes "not built"
+
+-- the status of a first reason, or of none behind the order's last turn
+abbrev pub status_for : Option Reason → Status
+status_for None = Status.OrderEnd
+status_for (Some Reason.Pass) = Status.Done
+status_for (Some (Reason.Fail code)) = Status.GuestFailed code
+status_for (Some (Reason.Limit hart)) = Status.Limit hart
+status_for (Some Reason.OutFull) = Status.OutFull
+status_for (Some Reason.AllStopped) = Status.AllStopped
+status_for (Some Reason.Stopped) = Status.Stopped
+status_for (Some Reason.Unbuilt) = Status.Unbuilt

@@ -1,0 +1,14 @@
+//! The program's one call: command words and files in, console bytes and a report out. Its contract is the
+//! project's headline, over the lines that are built.
+#![tactic(auto)]
+
+mod ending;
+mod line;
+mod order;
+mod report;
+mod start;
+mod status;
+mod top;
+
+pub use status::{Status, code, status_line};
+pub use top::tlbvm_still;

@@ -1,0 +1,87 @@
+// How a call ended: its exit code and its line.
+ghost use Rattle.std.specs.Prelude.{◌≡◌};
+ghost use Rattle.tlbvm.specs.Status.{exit_code_of, status_text};
+
+use arrayvec::ArrayString;
+use itoa::Buffer;
+
+/// How a call ended. Of these only `Done`, `OrderEnd` and `Unbuilt` are ends of a machine yet.
+#[derive(Clone, Copy, Debug, PartialEq, Eq)]
+pub enum Status {
+    /// The guest said that it passed.
+    Done,
+    /// The words are no command line.
+    Usage,
+    /// A file could not be read.
+    ReadFault,
+    /// A file is longer than 67,108,864 bytes.
+    TooLong,
+    /// `out` or `log` took no more.
+    WriteFault,
+    /// There was no memory for the files or the machine; no turn was taken.
+    NoMemory,
+    /// The guest said that it failed, with this code.
+    GuestFailed(u16),
+    /// This hart reached its limit of instructions.
+    Limit(u8),
+    /// The console is full.
+    OutFull,
+    /// All harts are stopped.
+    AllStopped,
+    /// The order's turns are all taken.
+    OrderEnd,
+    /// The script stopped the machine.
+    Stopped,
+    /// The file, the order or what the guest came to isn't built yet.
+    Unbuilt,
+}
+
+/// The exit code of a status.
+pub fn code(status: &Status) -> u8
+    ensures { result ≡ exit_code_of status.now }
+{
+    match status {
+        Status::Done => 0,
+        Status::Usage => 2,
+        Status::ReadFault => 3,
+        Status::TooLong => 4,
+        Status::WriteFault => 9,
+        Status::NoMemory => 10,
+        Status::GuestFailed(_) => 11,
+        Status::Limit(_) => 12,
+        Status::OutFull => 13,
+        Status::AllStopped => 14,
+        Status::OrderEnd => 15,
+        Status::Stopped => 16,
+        Status::Unbuilt => 17,
+    }
+}
+
+/// What the program prints of a status, without a line feed.
+pub fn status_line(status: &Status) -> ArrayString<96>
+    ensures { result.bytes ≡ status_text status.now }
+{
+    let mut line = ArrayString::new();
+    match status {
+        Status::Done => line.push_str("done"),
+        Status::Usage => line.push_str("usage: tlbvm plain, sched, run, churn, asm, dis or gen"),
+        Status::ReadFault => line.push_str("read failed"),
+        Status::TooLong => line.push_str("file too long"),
+        Status::WriteFault => line.push_str("write failed"),
+        Status::NoMemory => line.push_str("out of memory"),
+        Status::GuestFailed(code) => {
+            line.push_str("guest failed: ");
+            line.push_str(Buffer::new().format(*code));
+        }
+        Status::Limit(hart) => {
+            line.push_str("limit: hart ");
+            line.push_str(Buffer::new().format(*hart));
+        }
+        Status::OutFull => line.push_str("output full"),
+        Status::AllStopped => line.push_str("all harts stopped"),
+        Status::OrderEnd => line.push_str("order ended"),
+        Status::Stopped => line.push_str("stopped"),
+        Status::Unbuilt => line.push_str("not built"),
+    }
+    line
+}

@@ -1,0 +1,141 @@
+// The top call.
+ghost use Rattle.std.specs.Prelude.{◌≡◌, ◌⊎◌, ◌↔◌, ℕ, Option, None, Some, IsTrue, map, string_bytes};
+ghost use Rattle.ref_machine.specs.declared.reason.Reason.{Reason as TheReason};
+ghost use Rattle.tlbvm.specs.Line.{line_of};
+ghost use Rattle.tlbvm.specs.Status.{status_for};
+ghost use Rattle.tlbvm.specs.Call.{call_of, written_of, GetsNothing, IsRefused, HasEnded, IsCutShort};
+ghost use Rattle.tlbvm.specs.Answers.{CauseOfStatus, IsComplete, IsOneRun, OnLine, is_end, status_refused};
+ghost use Rattle.tlbvm.specs.declared.start.Refusal.{Refusal as TheRefusal};
+
+use crate::ending::{take_turns, write_end};
+use crate::line::{PlainLine, read_line};
+use crate::start::{Refusal, start};
+use crate::status::Status;
+use ref_machine::Reason;
+use std::alloc::Global;
+use vm_io::{Images, Sink};
+
+fn status_of(reason: Option<Reason>) -> Status
+    ensures { result ≡ status_for reason }
+{
+    match reason {
+        None => Status::OrderEnd,
+        Some(Reason::Pass) => Status::Done,
+        Some(Reason::Fail(code)) => Status::GuestFailed(code),
+        Some(Reason::Limit(hart)) => Status::Limit(hart),
+        Some(Reason::OutFull) => Status::OutFull,
+        Some(Reason::AllStopped) => Status::AllStopped,
+        Some(Reason::Stopped) => Status::Stopped,
+        Some(Reason::Unbuilt) => Status::Unbuilt,
+    }
+}
+
+fn status_refused(refusal: Refusal) -> Status
+    ensures { result ≡ status_refused refusal }
+{
+    match refusal {
+        Refusal::ReadFault => Status::ReadFault,
+        Refusal::TooLong => Status::TooLong,
+        Refusal::NoMemory => Status::NoMemory,
+        Refusal::Unbuilt => Status::Unbuilt,
+    }
+}
+
+/// Does a `plain` line.
+fn plain<F: Images, O: Sink, L: Sink>(
+    alloc: Global,
+    line: &PlainLine<'_>,
+    images: &mut F,
+    out: &mut O,
+    log: &mut L,
+) -> Status
+    ensures { CauseOfStatus result (call_of F.told F.faults O.taken O.faults L.taken L.faults images.old images.new out.old out.new log.old log.new
+        (record { elf = line.now.elf.now; order = line.now.order.now })) }
+{
+    let mut job = match start(alloc, line, images) {
+        Ok(job) => job,
+        Err(refusal) => return status_refused(refusal),
+    };
+    let reason = take_turns(&mut job.machine, job.turns);
+    match write_end(job.machine.console(), reason, out, log) {
+        Ok(()) => status_of(reason),
+        Err(_) => Status::WriteFault,
+    }
+}
+
+/// Does all that a command line says, on one thread: reads its files by name from `images`, runs the machine to its
+/// end, and writes the console's bytes to `out` and then the report to `log`.
+///
+/// The line that is built is `plain ELF ORDER`, where neither operand begins with `-`. Checks are made in this order:
+/// the words, the read of ELF, the image, the read of ORDER, the order, the machine's memory; the first that fails
+/// answers, and then nothing was written. Want of memory comes before the first turn only.
+pub fn tlbvm_still<F: Images, O: Sink, L: Sink>(
+    alloc: Global,
+    words: &[String],
+    images: &mut F,
+    out: &mut O,
+    log: &mut L,
+) -> Status
+    // The headline: whenever the machine ends, its memory, registers and output are those of one run of the TLB-free
+    // machine.
+    ensures headline { IsTrue (is_end result) → OnLine
+        (call_of F.told F.faults O.taken O.faults L.taken L.faults images.old images.new out.old out.new log.old log.new) (map string_bytes words.now)
+        IsOneRun }
+
+    // Before the start: nothing is written.
+    ensures usage { (result ≡ Status.Usage) ↔ (line_of (map string_bytes words.now) ≡ None) }
+    ensures usage_writes { result ≡ Status.Usage →
+        GetsNothing (written_of O.taken O.faults out.old out.new) × GetsNothing (written_of L.taken L.faults log.old log.new) }
+    ensures read_fault { result ≡ Status.ReadFault → OnLine
+        (call_of F.told F.faults O.taken O.faults L.taken L.faults images.old images.new out.old out.new log.old log.new) (map string_bytes words.now)
+        (IsRefused TheRefusal.ReadFault) }
+    ensures too_long { result ≡ Status.TooLong → OnLine
+        (call_of F.told F.faults O.taken O.faults L.taken L.faults images.old images.new out.old out.new log.old log.new) (map string_bytes words.now)
+        (IsRefused TheRefusal.TooLong) }
+    ensures no_memory { result ≡ Status.NoMemory → OnLine
+        (call_of F.told F.faults O.taken O.faults L.taken L.faults images.old images.new out.old out.new log.old log.new) (map string_bytes words.now)
+        (IsRefused TheRefusal.NoMemory) }
+
+    // Before the start, or the run's first reason.
+    ensures unbuilt { result ≡ Status.Unbuilt → OnLine
+        (call_of F.told F.faults O.taken O.faults L.taken L.faults images.old images.new out.old out.new log.old log.new) (map string_bytes words.now)
+        (λ call. IsRefused TheRefusal.Unbuilt call ⊎ HasEnded (Some TheReason.Unbuilt) call) }
+
+    // The run's first reason, or none behind the order's last turn; `out` has its output and `log` its report.
+    ensures done { result ≡ Status.Done → OnLine
+        (call_of F.told F.faults O.taken O.faults L.taken L.faults images.old images.new out.old out.new log.old log.new) (map string_bytes words.now)
+        (HasEnded (Some TheReason.Pass)) }
+    ensures order_end { result ≡ Status.OrderEnd → OnLine
+        (call_of F.told F.faults O.taken O.faults L.taken L.faults images.old images.new out.old out.new log.old log.new) (map string_bytes words.now)
+        (HasEnded None) }
+    ensures guest_failed { (code : ℕ) → result ≡ Status.GuestFailed code → OnLine
+        (call_of F.told F.faults O.taken O.faults L.taken L.faults images.old images.new out.old out.new log.old log.new) (map string_bytes words.now)
+        (HasEnded (Some (TheReason.Fail code))) }
+    ensures limit { (hart : ℕ) → result ≡ Status.Limit hart → OnLine
+        (call_of F.told F.faults O.taken O.faults L.taken L.faults images.old images.new out.old out.new log.old log.new) (map string_bytes words.now)
+        (HasEnded (Some (TheReason.Limit hart))) }
+    ensures out_full { result ≡ Status.OutFull → OnLine
+        (call_of F.told F.faults O.taken O.faults L.taken L.faults images.old images.new out.old out.new log.old log.new) (map string_bytes words.now)
+        (HasEnded (Some TheReason.OutFull)) }
+    ensures all_stopped { result ≡ Status.AllStopped → OnLine
+        (call_of F.told F.faults O.taken O.faults L.taken L.faults images.old images.new out.old out.new log.old log.new) (map string_bytes words.now)
+        (HasEnded (Some TheReason.AllStopped)) }
+    ensures stopped { result ≡ Status.Stopped → OnLine
+        (call_of F.told F.faults O.taken O.faults L.taken L.faults images.old images.new out.old out.new log.old log.new) (map string_bytes words.now)
+        (HasEnded (Some TheReason.Stopped)) }
+
+    // A sink failed: what it took is a prefix of what was due, and `log` got nothing until `out` was whole.
+    ensures write_fault { result ≡ Status.WriteFault → OnLine
+        (call_of F.told F.faults O.taken O.faults L.taken L.faults images.old images.new out.old out.new log.old log.new) (map string_bytes words.now)
+        IsCutShort }
+
+    // Files without faults that are accepted, and sinks that take all, lead to the machine's end or want of memory.
+    ensures complete { OnLine
+        (call_of F.told F.faults O.taken O.faults L.taken L.faults images.old images.new out.old out.new log.old log.new) (map string_bytes words.now)
+        (IsComplete result) }
+{
+    match read_line(words) {
+        Some(line) => plain(alloc, &line, images, out, log),
+        None => Status::Usage,
+    }
+}
