@@ -1,11 +1,11 @@
 -- Walks in bare mode, and where the words of an access lie then.
-use Rattle.std.proofs.Common.{◌≡◌, refl, ℕ, ◌≤◌, ◌<◌, ◌+◌, ◌-◌, ◌*◌, ◌/◌, ◌%◌, ◌^◌, true, false, Bool, ◌||◌, arith, ap, sym, ◌∙◌, subst}
+use Rattle.std.proofs.Common.{◌≡◌, refl, ℕ, ◌≤◌, ◌+◌, ◌-◌, ◌*◌, ◌/◌, ◌%◌, ◌^◌, true, false, Bool, arith, ap, ◌∙◌, subst}
 use Rattle.std.specs.Prelude.{◌==◌, nat_lt, nat_le, ◌&&◌, if◌then◌else◌}
 use Rattle.std.proofs.lemmas.Bool.{le-leb, lt-ltb, le-ltb, lt-leb, ne_eqb, ltb-true, ltb-false, leb-true, leb-false}
 use Rattle.rv64_priv.specs.declared.state.Kind.{Kind}
 use Rattle.rv64_priv.specs.declared.state.Regime.{Regime}
 use Rattle.rv64_priv.specs.Bits.{aligned}
-use Rattle.rv64_priv.specs.Walk.{Levels, Walked, Leaf, PageFault, AccessFault, walk_of, walk_from, reached, is_canonical, is_ram, is_device}
+use Rattle.rv64_priv.specs.Walk.{Levels, PageFault, walk_of, walk_from, reached, is_canonical, is_ram, is_device}
 
 pub bare_walk : (pages : ℕ) (r : Regime) (kind : Kind) (l : Levels) (va : ℕ) → r.satp ≡ 0 → walk_of pages r kind l va ≡ reached pages kind 0xcf (aligned 12 va) 0
 unfolding walk_of
@@ -27,6 +27,7 @@ ram_page pages pa true e =
     and_left : (p q : Bool) → p && q ≡ true → p ≡ true
     and_left true q h = refl
     and_left false q h = h
+
     and_right : (p q : Bool) → p && q ≡ true → q ≡ true
     and_right true q h = h
     and_right false q h = cc
@@ -35,6 +36,7 @@ ram_page pages pa false e = go (nat_le (2 ^ 31) pa) refl
     low : (b : Bool) → b && false ≡ false
     low true = refl
     low false = refl
+
     go : (b : Bool) → nat_le (2 ^ 31) pa ≡ b → is_ram pages (aligned 12 pa) ≡ false
     go false k =
         let under = leb-false (2 ^ 31) pa k in

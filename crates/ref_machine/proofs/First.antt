@@ -1,6 +1,6 @@
 -- A loaded machine shows the first state.
-use Rattle.std.proofs.Common.{◌≡◌, refl, ℕ, ◌<◌, ◌+◌, ◌-◌, ◌*◌, ◌%◌, ◌^◌, List, [], None, arith, ap, sym, ◌∙◌}
-use Rattle.std.specs.Prelude.{nat_lt, if◌then◌else◌, slice_index, length}
+use Rattle.std.proofs.Common.{◌≡◌, refl, ℕ, ◌+◌, ◌-◌, ◌*◌, ◌%◌, ◌^◌, List, [], None, arith, ap, sym, ◌∙◌}
+use Rattle.std.specs.Prelude.{if◌then◌else◌}
 use Rattle.std.proofs.lemmas.Bool.{le-ltb}
 use Rattle.elf_load.specs.Loaded.{Loaded}
 use Rattle.elf_load.specs.declared.image.Part.{Part}
@@ -9,8 +9,8 @@ use Rattle.step_laws.specs.declared.words.Layout.{Layout}
 use Rattle.step_laws.specs.Words.{first_ram_word}
 use Rattle.ref_machine.specs.Image.{image_memory}
 use Rattle.ref_machine.specs.State.{initial, reset}
-use Rattle.ref_machine.specs.PlainState.{PlainState, IsLoaded}
-use Rattle.ref_machine.specs.Shows.{Shows, ShowsRam, setup_of}
+use Rattle.ref_machine.specs.PlainState.{IsLoaded}
+use Rattle.ref_machine.specs.Shows.{Shows, setup_of}
 
 loaded_word : (file : List ℕ) (parts : List Part) (i : ℕ) → image_memory file parts (first_ram_word + i) ≡ contents_word file parts (2 ^ 31 + 8 * i)
 loaded_word file parts i =

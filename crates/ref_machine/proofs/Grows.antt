@@ -1,13 +1,13 @@
 -- What never falls or changes along a run.
-use Rattle.std.proofs.Common.{◌≡◌, refl, ℕ, zero, suc, ◌≤◌, ◌<◌, ◌+◌, ◌++◌, List, [], ◌∷◌, Some, None, Option, true, false, Bool, arith, ap, sym, ◌∙◌, subst, option_to_list}
+use Rattle.std.proofs.Common.{◌≡◌, refl, ℕ, zero, suc, ◌≤◌, ◌++◌, List, [], ◌∷◌, Some, None, Option, true, false, Bool, arith, ap, sym, ◌∙◌, subst, option_to_list}
 use Rattle.std.specs.Prelude.{slice_set, if◌then◌else◌}
 use Rattle.rv64_priv.specs.declared.state.Kind.{Kind}
 use Rattle.ref_machine.specs.declared.reason.Reason.{Reason}
-use Rattle.ref_machine.specs.Memory.{Entry, written}
-use Rattle.ref_machine.specs.Event.{Event, Outcome, Starting, Fetch, Exec, GiveUp, Interrupt, Flushes, Start, Stop, Await, SnapBegin, SnapEnd, Dump, actor_of, did_of, entry_of}
+use Rattle.ref_machine.specs.Memory.{written}
+use Rattle.ref_machine.specs.Event.{Event, Outcome, Fetch, Exec, GiveUp, Interrupt, Flushes, Start, Stop, Await, SnapBegin, SnapEnd, Dump, actor_of, did_of, entry_of}
 use Rattle.ref_machine.specs.State.{Setup, State, Hart, nth, hart}
 use Rattle.ref_machine.specs.Access.{Spot, AtRam, AtDevice, Faults, spot_of}
-use Rattle.ref_machine.specs.Change.{state_after, part_next, has_part, executed, fetched, first_reason, printed, awaited, with_start}
+use Rattle.ref_machine.specs.Change.{state_after, part_next, has_part, executed, fetched, first_reason, printed}
 use Rattle.ref_machine.specs.Run.{state_of, stored}
 use Rattle.ref_machine.specs.Laws.{PlainRunsAreRuns, CountsGrow, OutputGrows, ReasonStays, MemoryIsStored}
 use Rattle.rv64_exec.specs.Code.{Code}
@@ -50,9 +50,9 @@ set_count w k (t ∷ hs) (suc i) (suc h) = set_count w k hs i h
 event_count : (e : Event) (s : State) (h : ℕ) → (hart s h).count ≤ (hart (state_after e s) h).count
 event_count e s h = subst (λ n. (hart s h).count ≤ n) (sym (start_keeps (λ t. t.count) (λ g t. refl) (if has_part e then slice_set s.harts (actor_of e) (part_next e (nth s.harts (actor_of e))) else s.harts) (did_of e).starts h)) (go (has_part e))
   where
-  go : (b : Bool) → (hart s h).count ≤ (nth (if b then slice_set s.harts (actor_of e) (part_next e (nth s.harts (actor_of e))) else s.harts) h).count
-  go true = set_count (part_next e) (part_count e) s.harts (actor_of e) h
-  go false = omega arith
+    go : (b : Bool) → (hart s h).count ≤ (nth (if b then slice_set s.harts (actor_of e) (part_next e (nth s.harts (actor_of e))) else s.harts) h).count
+    go true = set_count (part_next e) (part_count e) s.harts (actor_of e) h
+    go false = omega arith
 
 pub counts_grow : CountsGrow
 counts_grow u [] run h = omega arith
@@ -74,9 +74,10 @@ printed_more output (b ∷ bs) = refl
 pub output_grows : OutputGrows
 output_grows u [] run = ([], sym (nil (state_of u run).output))
 output_grows u (e ∷ more) run =
-    let i = output_grows u more run in
-    (i.0 ++ (did_of e).bytes,
-      printed_more (state_of u (more ++ run)).output (did_of e).bytes ∙ ap (λ xs. xs ++ (did_of e).bytes) i.1 ∙ assoc (state_of u run).output i.0 (did_of e).bytes)
+    let i = output_grows u more run in (
+      i.0 ++ (did_of e).bytes,
+      printed_more (state_of u (more ++ run)).output (did_of e).bytes ∙ ap (λ xs. xs ++ (did_of e).bytes) i.1 ∙ assoc (state_of u run).output i.0 (did_of e).bytes,
+    )
 
 -- the reason
 first_stays : (r : Reason) (old new : Option Reason) → old ≡ Some r → first_reason old new ≡ Some r

@@ -1,7 +1,7 @@
 -- Each turn of the plain run is lawful: every moment is now.
-use Rattle.std.proofs.Common.{◌≡◌, refl, ℕ, zero, suc, ◌≤◌, ◌<◌, ◌+◌, ◌%◌, ◌++◌, List, [], ◌∷◌, map, Some, None, Option, true, false, Bool, not, ◌&&◌, length, length-set, arith, ap, sym, ◌∙◌, subst}
-use Rattle.std.specs.Prelude.{◌≢◌, ◌==◌, IsTrue, IsSome, is_some, if◌then◌else◌, nat_le, slice_set, replicate, ◌-◌}
-use Rattle.std.specs.List.{AllByRecursion, list_all}
+use Rattle.std.proofs.Common.{◌≡◌, refl, ℕ, zero, suc, ◌<◌, ◌+◌, ◌%◌, ◌++◌, List, [], ◌∷◌, map, Some, None, Option, true, false, Bool, not, ◌&&◌, length, length-set, arith, ap, sym, ◌∙◌, subst}
+use Rattle.std.specs.Prelude.{◌≢◌, ◌==◌, IsSome, is_some, if◌then◌else◌, slice_set, replicate, ◌-◌}
+use Rattle.std.specs.List.{AllByRecursion}
 use Rattle.std.proofs.lemmas.Bool.{le-leb, eq-eqb, ne_eqb, eqb-true, eqb-false}
 use Rattle.std.proofs.lemmas.List.{get_or-set_same}
 use Rattle.rv64_priv.specs.declared.state.Kind.{Kind}
@@ -9,18 +9,17 @@ use Rattle.rv64_priv.specs.Walk.{Walked, Leaf, PageFault, AccessFault, is_device
 use Rattle.rv64_priv.specs.Flush.{Flush, Full, Pages}
 use Rattle.rv64_exec.specs.Code.{Code}
 use Rattle.ref_machine.specs.declared.reason.Reason.{Reason}
-use Rattle.ref_machine.specs.Past.{Since, now, later, HasSince, this, before}
-use Rattle.ref_machine.specs.Event.{Event, Outcome, Starting, Fetch, Exec, Interrupt, Flushes, Start, Stop, actor_of, did_of}
+use Rattle.ref_machine.specs.Past.{now, HasSince, this, before}
+use Rattle.ref_machine.specs.Event.{Event, Outcome, Starting, Interrupt, Flushes, Start, Stop, actor_of, did_of}
 use Rattle.ref_machine.specs.State.{Setup, State, Hart, Mode, Started, Halted, Pending, hart, nth, memory, all_halted, initial, new_hart}
-use Rattle.ref_machine.specs.Access.{Spot, AtRam, AtDevice, Faults, spot_of, spot_at, second_va}
-use Rattle.ref_machine.specs.Walks.{Wanted, walked, walked_now, need, access_of, first_now, second_now, no_walk}
-use Rattle.ref_machine.specs.Perform.{perform}
-use Rattle.ref_machine.specs.Change.{state_after, part_next, has_part, executed, fetched, counted, first_reason, harts_next, with_start, awaited}
-use Rattle.ref_machine.specs.Run.{state_of, is_of, fetches, starts, includes, flushes, last_of, passes, counts, leaves, is_leaf_end, is_due}
-use Rattle.ref_machine.specs.Lawful.{IsLawful, IsLawfulIn, IsRun, IsFetch, IsExec, IsInterrupt, IsStart, IsAllowed, AllowedFor, WalksAllowed, Flushing, flushing, FlushesDone, Uninterrupted, IsUnbuilt}
-use Rattle.ref_machine.specs.Now.{is_pending, IsCode, IsNext, exec_now, fetch_now, fetch_end}
+use Rattle.ref_machine.specs.Access.{AtRam, AtDevice, spot_of, second_va}
+use Rattle.ref_machine.specs.Walks.{Wanted, walked_now, need, access_of, first_now, second_now, no_walk}
+use Rattle.ref_machine.specs.Change.{state_after, part_next, has_part, executed, fetched, first_reason, awaited}
+use Rattle.ref_machine.specs.Run.{state_of, is_of, fetches, includes, flushes, last_of, passes, counts, leaves, is_leaf_end, is_due}
+use Rattle.ref_machine.specs.Lawful.{IsLawful, IsRun, IsAllowed, AllowedFor, Flushing, flushing, FlushesDone}
+use Rattle.ref_machine.specs.Now.{is_pending, IsNext, exec_now, fetch_now, fetch_end}
 use Rattle.ref_machine.specs.Built.{is_built}
-use Rattle.ref_machine.specs.Plain.{IsPlainRun, none, turn, over, plain_turn, turn_in, running_turn, taken_turn, instruction, executing, with_stops, stops_behind, flush_events}
+use Rattle.ref_machine.specs.Plain.{IsPlainRun, turn, over, plain_turn, turn_in, taken_turn, instruction, executing, with_stops, stops_behind, flush_events}
 use Rattle.ref_machine.proofs.Harts.{by_set, started_there, pending_there, event_keeps, start_keeps}
 
 -- no hart holds a word, and no stop is due
@@ -41,7 +40,7 @@ undue_quiet : (u : Setup) (run : List Event) (e : Event) (h : ℕ) → counts e 
     → is_due u run (state_of u run) h ≡ false → is_due u (e ∷ run) (state_of u (e ∷ run)) h ≡ false
 undue_quiet u run e h c same k =
     due_by (is_of h e) e (last_of h run) ((hart (state_of u (e ∷ run)) h).count == u.limit) c
-      (subst (λ n. passes counts (last_of h run) && (n == u.limit) ≡ false) (sym same) k)
+    (subst (λ n. passes counts (last_of h run) && (n == u.limit) ≡ false) (sym same) k)
 
 -- what is due of another hart stays
 undue_other : (u : Setup) (run : List Event) (e : Event) (h : ℕ) → (actor_of e == h) ≡ false → (hart (state_of u (e ∷ run)) h).count ≡ (hart (state_of u run) h).count
@@ -57,21 +56,21 @@ allowed_now u run h kind va = record { first = run; second = run; third = run; f
 pub access_now : (u : Setup) (run : List Event) (h : ℕ) (w : Option Wanted) → AllowedFor u run h (first_now u (state_of u run) h w) (second_now u (state_of u run) h w) w
 access_now u run h None = tt
 access_now u run h (Some w) = record {
-    first_page = allowed_now u run h w.kind w.va;
-    second_page = λ crosses _. subst (λ b. IsAllowed u run h w.kind (second_va w.va) (if b then walked_now u (state_of u run) h w.kind (second_va w.va) else no_walk)) (sym crosses) (allowed_now u run h w.kind (second_va w.va))
-  }
+  first_page = allowed_now u run h w.kind w.va;
+  second_page = λ crosses _. subst (λ b. IsAllowed u run h w.kind (second_va w.va) (if b then walked_now u (state_of u run) h w.kind (second_va w.va) else no_walk)) (sym crosses) (allowed_now u run h w.kind (second_va w.va));
+}
 
 pub fetch_lawful : (u : Setup) (run : List Event) (h : ℕ) (code : Code) → Settled u run → (hart (state_of u run) h).mode ≡ Started
     → is_pending u (state_of u run) h (memory u (state_of u run)) ≡ false → IsNext u (state_of u run) h code → IsLawful u run (fetch_now u (state_of u run) h code)
 fetch_lawful u run h code k started quiet next = record {
-    there = started_there (state_of u run).harts h started;
-    started = started;
-    holds_none = k.holds_none h;
-    not_due = k.undue h;
-    uninterrupted = record { moment = run; past = now; quiet = quiet };
-    allowed = allowed_now u run h Kind.Fetch (hart (state_of u run) h).arch.pc;
-    decoded = next
-  }
+  there = started_there (state_of u run).harts h started;
+  started = started;
+  holds_none = k.holds_none h;
+  not_due = k.undue h;
+  uninterrupted = record { moment = run; past = now; quiet = quiet };
+  allowed = allowed_now u run h Kind.Fetch (hart (state_of u run) h).arch.pc;
+  decoded = next;
+}
 
 exec_here : (u : Setup) (run : List Event) (h : ℕ) → h < length (state_of u run).harts → IsSome (hart (state_of u run) h).held
     → FlushesDone run h (flushing u (state_of u run) h (need (state_of u run) h)) → IsLawful u run (exec_now u (state_of u run) h)
@@ -154,26 +153,30 @@ stops_good : (u : Setup) (run : List Event) (h : ℕ) (e : Event) → (actor_of 
     → Good u (stops_behind u h e (state_of u (e ∷ run)) ++ e ∷ run)
 stops_good u run h e own is_run empty others = go (counts e && (at_limit u (e ∷ run) h)) (leaves e && all_halted (state_of u (e ∷ run))) refl refl
   where
-  due : is_due u (e ∷ run) (state_of u (e ∷ run)) h ≡ counts e && (at_limit u (e ∷ run) h)
-  due = ap (λ b. passes counts (if b then Some e else last_of h run) && (at_limit u (e ∷ run) h)) own
-  left : leaves e ≡ true → passes leaves (last_of h (e ∷ run)) ≡ true
-  left k = ap (λ b. passes leaves (if b then Some e else last_of h run)) own ∙ k
-  undue_all : counts e && (at_limit u (e ∷ run) h) ≡ false → (t : ℕ) → is_due u (e ∷ run) (state_of u (e ∷ run)) t ≡ false
-  undue_all k t = go' (t == h) refl
-    where
-    go' : (b : Bool) → (t == h) ≡ b → is_due u (e ∷ run) (state_of u (e ∷ run)) t ≡ false
-    go' true i = subst (λ x. is_due u (e ∷ run) (state_of u (e ∷ run)) x ≡ false) (sym (eqb-true t h i)) (due ∙ k)
-    go' false i = others t (eqb-false t h i)
-  stop_all : leaves e && all_halted (state_of u (e ∷ run)) ≡ true → IsRun u ((all_of h) ∷ e ∷ run)
-  stop_all k = ((left (and_left (leaves e) (all_halted (state_of u (e ∷ run))) k), and_right (leaves e) (all_halted (state_of u (e ∷ run))) k), is_run)
-  go : (c a : Bool) → counts e && (at_limit u (e ∷ run) h) ≡ c → leaves e && all_halted (state_of u (e ∷ run)) ≡ a
-      → Good u (((if c then (limit_of h) ∷ [] else []) ++ (if a then (all_of h) ∷ [] else [])) ++ e ∷ run)
-  go false false p q = record { is_run = is_run; settled = λ _. record { holds_none = empty; undue = undue_all p } }
-  go false true p q = record { is_run = stop_all q; settled = λ k. absurd (reason_stands (state_of u (e ∷ run)).reason Reason.AllStopped k) }
-  go true false p q = record { is_run = ((refl, due ∙ p), is_run); settled = λ k. absurd (reason_stands (state_of u (e ∷ run)).reason (Reason.Limit h) k) }
-  go true true p q = record {
+    due : is_due u (e ∷ run) (state_of u (e ∷ run)) h ≡ counts e && (at_limit u (e ∷ run) h)
+    due = ap (λ b. passes counts (if b then Some e else last_of h run) && (at_limit u (e ∷ run) h)) own
+
+    left : leaves e ≡ true → passes leaves (last_of h (e ∷ run)) ≡ true
+    left k = ap (λ b. passes leaves (if b then Some e else last_of h run)) own ∙ k
+
+    undue_all : counts e && (at_limit u (e ∷ run) h) ≡ false → (t : ℕ) → is_due u (e ∷ run) (state_of u (e ∷ run)) t ≡ false
+    undue_all k t = go' (t == h) refl
+      where
+        go' : (b : Bool) → (t == h) ≡ b → is_due u (e ∷ run) (state_of u (e ∷ run)) t ≡ false
+        go' true i = subst (λ x. is_due u (e ∷ run) (state_of u (e ∷ run)) x ≡ false) (sym (eqb-true t h i)) (due ∙ k)
+        go' false i = others t (eqb-false t h i)
+
+    stop_all : leaves e && all_halted (state_of u (e ∷ run)) ≡ true → IsRun u ((all_of h) ∷ e ∷ run)
+    stop_all k = ((left (and_left (leaves e) (all_halted (state_of u (e ∷ run))) k), and_right (leaves e) (all_halted (state_of u (e ∷ run))) k), is_run)
+
+    go : (c a : Bool) → counts e && (at_limit u (e ∷ run) h) ≡ c → leaves e && all_halted (state_of u (e ∷ run)) ≡ a
+        → Good u (((if c then (limit_of h) ∷ [] else []) ++ (if a then (all_of h) ∷ [] else [])) ++ e ∷ run)
+    go false false p q = record { is_run = is_run; settled = λ _. record { holds_none = empty; undue = undue_all p } }
+    go false true p q = record { is_run = stop_all q; settled = λ k. absurd (reason_stands (state_of u (e ∷ run)).reason Reason.AllStopped k) }
+    go true false p q = record { is_run = ((refl, due ∙ p), is_run); settled = λ k. absurd (reason_stands (state_of u (e ∷ run)).reason (Reason.Limit h) k) }
+    go true true p q = record {
       is_run = ((refl, ap (λ b. passes counts (if b then Some (all_of h) else last_of h (e ∷ run)) && (at_limit u (e ∷ run) h)) (eq-eqb h h refl) ∙ and_right (counts e) (at_limit u (e ∷ run) h) p), stop_all q);
-      settled = λ k. absurd (reason_stands (first_reason (state_of u (e ∷ run)).reason (Some Reason.AllStopped)) (Reason.Limit h) k)
+      settled = λ k. absurd (reason_stands (first_reason (state_of u (e ∷ run)).reason (Some Reason.AllStopped)) (Reason.Limit h) k);
     }
 
 -- a Fetch that finds a leaf
@@ -198,7 +201,7 @@ other_keeps : {B : Type 0} (f : Hart → B) → ((g : Starting) (t : Hart) → f
 other_keeps f k e s h i p ne =
     start_keeps f k (if has_part e then slice_set s.harts (actor_of e) (part_next e (nth s.harts (actor_of e))) else s.harts) (did_of e).starts h
     ∙ subst (λ b. f (nth (if b then slice_set s.harts (actor_of e) (part_next e (nth s.harts (actor_of e))) else s.harts) h) ≡ f (nth s.harts h)) (sym p)
-        (by_set (λ t. f t ≡ f (nth s.harts h)) s.harts (actor_of e) h (part_next e (nth s.harts (actor_of e))) i (λ same. absurd (ne same)) (λ _. refl))
+    (by_set (λ t. f t ≡ f (nth s.harts h)) s.harts (actor_of e) h (part_next e (nth s.harts (actor_of e))) i (λ same. absurd (ne same)) (λ _. refl))
 
 -- what it leaves of its own
 own_part : {B : Type 0} (f : Hart → B) → ((g : Starting) (t : Hart) → f (awaited g t) ≡ f t) → (e : Event) (s : State) → actor_of e < length s.harts → has_part e ≡ true
@@ -206,7 +209,7 @@ own_part : {B : Type 0} (f : Hart → B) → ((g : Starting) (t : Hart) → f (a
 own_part f k e s i p =
     start_keeps f k (if has_part e then slice_set s.harts (actor_of e) (part_next e (nth s.harts (actor_of e))) else s.harts) (did_of e).starts (actor_of e)
     ∙ subst (λ b. f (nth (if b then slice_set s.harts (actor_of e) (part_next e (nth s.harts (actor_of e))) else s.harts) (actor_of e)) ≡ f (part_next e (nth s.harts (actor_of e)))) (sym p)
-        (ap f (get_or-set_same s.harts (actor_of e) (part_next e (nth s.harts (actor_of e))) (new_hart Halted 0) i))
+    (ap f (get_or-set_same s.harts (actor_of e) (part_next e (nth s.harts (actor_of e))) (new_hart Halted 0) i))
 
 -- an Exec and the stops behind it: no hart holds a word
 executed_empty : (o : Outcome) (t : Hart) → (executed o t).held ≡ None
@@ -218,9 +221,9 @@ all_empty : (e : Event) (s : State) → actor_of e < length s.harts → has_part
     → ((t : ℕ) → t ≢ actor_of e → (hart s t).held ≡ None) → (t : ℕ) → (hart (state_after e s) t).held ≡ None
 all_empty e s i p own others t = go (t == actor_of e) refl
   where
-  go : (b : Bool) → (t == actor_of e) ≡ b → (hart (state_after e s) t).held ≡ None
-  go true k = subst (λ x. (hart (state_after e s) x).held ≡ None) (sym (eqb-true t (actor_of e) k)) (own_part (λ t. t.held) (λ g t. refl) e s i p ∙ own)
-  go false k = other_keeps (λ t. t.held) (λ g t. refl) e s t i p (eqb-false t (actor_of e) k) ∙ others t (eqb-false t (actor_of e) k)
+    go : (b : Bool) → (t == actor_of e) ≡ b → (hart (state_after e s) t).held ≡ None
+    go true k = subst (λ x. (hart (state_after e s) x).held ≡ None) (sym (eqb-true t (actor_of e) k)) (own_part (λ t. t.held) (λ g t. refl) e s i p ∙ own)
+    go false k = other_keeps (λ t. t.held) (λ g t. refl) e s t i p (eqb-false t (actor_of e) k) ∙ others t (eqb-false t (actor_of e) k)
 
 -- lists of a turn, grouped anew
 append_assoc : (a b c : List Event) → (a ++ b) ++ c ≡ a ++ (b ++ c)
@@ -238,17 +241,17 @@ exec_good_here : (u : Setup) (run : List Event) (h : ℕ) → IsRun u run → Un
 unfolding exec_now
 exec_good_here u run h is_run undue i holds flushed others =
     stops_good u run h (exec_now u (state_of u run) h) (eq-eqb h h refl) (exec_here u run h i holds flushed, is_run)
-      (all_empty (exec_now u (state_of u run) h) (state_of u run) i refl (executed_empty (did_of (exec_now u (state_of u run) h)) (hart (state_of u run) h)) others)
-      (λ t ne. undue_other u run (exec_now u (state_of u run) h) t (ne_eqb h t (λ k. ne (sym k)))
-        (other_keeps (λ t. t.count) (λ g t. refl) (exec_now u (state_of u run) h) (state_of u run) t i refl ne) (undue t))
+    (all_empty (exec_now u (state_of u run) h) (state_of u run) i refl (executed_empty (did_of (exec_now u (state_of u run) h)) (hart (state_of u run) h)) others)
+    (λ t ne. undue_other u run (exec_now u (state_of u run) h) t (ne_eqb h t (λ k. ne (sym k)))
+    (other_keeps (λ t. t.count) (λ g t. refl) (exec_now u (state_of u run) h) (state_of u run) t i refl ne) (undue t))
 
 exec_good : (u : Setup) (run : List Event) (h : ℕ) (s : State) → state_of u run ≡ s → IsRun u run → Undue u run → h < length s.harts → IsSome (hart s h).held
     → FlushesDone run h (flushing u s h (need s h)) → ((t : ℕ) → t ≢ h → (hart s t).held ≡ None)
     → Good u (stops_behind u h (exec_now u s h) (state_after (exec_now u s h) s) ++ exec_now u s h ∷ run)
 exec_good u run h s e is_run undue =
     subst (λ x. h < length x.harts → IsSome (hart x h).held → FlushesDone run h (flushing u x h (need x h)) → ((t : ℕ) → t ≢ h → (hart x t).held ≡ None)
-        → Good u (stops_behind u h (exec_now u x h) (state_after (exec_now u x h) x) ++ exec_now u x h ∷ run))
-      e (exec_good_here u run h is_run undue)
+    → Good u (stops_behind u h (exec_now u x h) (state_after (exec_now u x h) x) ++ exec_now u x h ∷ run))
+    e (exec_good_here u run h is_run undue)
 
 -- a Fetch that finds a leaf, and what stands behind it
 executing_good : (u : Setup) (run : List Event) (h : ℕ) (code : Code) → Good u run → Settled u run → (hart (state_of u run) h).mode ≡ Started
@@ -267,8 +270,8 @@ executing_good u run h code g k started lawful leaf =
     let there : h < length s1.harts = subst (λ n. h < n) (sym (length-set s.harts h _)) i in
     let holds : (hart s1 h).held ≡ Some code = own_part (λ x. x.held) (λ g x. refl) f s i refl ∙ ap (λ x. x.held) part in
     subst (λ es. Good u es) (sym (regroup (stops_behind u h (exec_now u s1 h) (state_after (exec_now u s1 h) s1)) (flush_events (flushing u s1 h (need s1 h))) run (exec_now u s1 h) f))
-      (exec_good u (flush_events (flushing u s1 h (need s1 h)) ++ f ∷ run) h s1 fl.state fl.is_run fl.undue there (ap is_some holds) fl.done
-        (λ t ne. other_keeps (λ x. x.held) (λ g x. refl) f s t i refl ne ∙ k.holds_none t))
+    (exec_good u (flush_events (flushing u s1 h (need s1 h)) ++ f ∷ run) h s1 fl.state fl.is_run fl.undue there (ap is_some holds) fl.done
+    (λ t ne. other_keeps (λ x. x.held) (λ g x. refl) f s t i refl ne ∙ k.holds_none t))
 
 -- a Fetch that faults
 fault_good : (u : Setup) (run : List Event) (h : ℕ) (code : Code) → Good u run → Settled u run → (hart (state_of u run) h).mode ≡ Started
@@ -279,31 +282,31 @@ fault_good u run h code g k started lawful fault =
     let f = fetch_now u s h code in
     let i : h < length s.harts = started_there s.harts h started in
     subst (λ es. Good u es) (sym (append_assoc (stops_behind u h f (state_after f s)) (f ∷ []) run))
-      (stops_good u run h f (eq-eqb h h refl) (lawful, g.is_run)
-        (all_empty f s i refl (fetched_fault code (hart s h) (hart s h).arch.pc (fetch_end u s h) fault ∙ k.holds_none h) (λ t ne. k.holds_none t))
-        (λ t ne. undue_other u run f t (ne_eqb h t (λ e. ne (sym e))) (other_keeps (λ x. x.count) (λ g x. refl) f s t i refl ne) (k.undue t)))
+    (stops_good u run h f (eq-eqb h h refl) (lawful, g.is_run)
+    (all_empty f s i refl (fetched_fault code (hart s h) (hart s h).arch.pc (fetch_end u s h) fault ∙ k.holds_none h) (λ t ne. k.holds_none t))
+    (λ t ne. undue_other u run f t (ne_eqb h t (λ e. ne (sym e))) (other_keeps (λ x. x.count) (λ g x. refl) f s t i refl ne) (k.undue t)))
 
 instruction_good : (u : Setup) (run : List Event) (h : ℕ) (code : Code) → Good u run → Settled u run → (hart (state_of u run) h).mode ≡ Started
     → IsLawful u run (fetch_now u (state_of u run) h code) → Good u (instruction u (state_of u run) h code ++ run)
 unfolding instruction
 instruction_good u run h code g k started lawful = go (is_leaf_end (fetch_end u (state_of u run) h)) refl
   where
-  go : (b : Bool) → is_leaf_end (fetch_end u (state_of u run) h) ≡ b
-      → Good u ((if b then executing u (state_after (fetch_now u (state_of u run) h code) (state_of u run)) h ++ fetch_now u (state_of u run) h code ∷ []
-                 else with_stops u (state_of u run) h (fetch_now u (state_of u run) h code)) ++ run)
-  go true e = executing_good u run h code g k started lawful e
-  go false e = fault_good u run h code g k started lawful e
+    go : (b : Bool) → is_leaf_end (fetch_end u (state_of u run) h) ≡ b
+        → Good u ((if b then executing u (state_after (fetch_now u (state_of u run) h code) (state_of u run)) h ++ fetch_now u (state_of u run) h code ∷ []
+        else with_stops u (state_of u run) h (fetch_now u (state_of u run) h code)) ++ run)
+    go true e = executing_good u run h code g k started lawful e
+    go false e = fault_good u run h code g k started lawful e
 
 -- an interrupt
 interrupt_good : (u : Setup) (run : List Event) (h : ℕ) → Good u run → Settled u run → (hart (state_of u run) h).mode ≡ Started
     → is_pending u (state_of u run) h (memory u (state_of u run)) ≡ true → Good u (Interrupt h ∷ run)
 interrupt_good u run h g k started pending = record {
-    is_run = (record { there = started_there (state_of u run).harts h started; started = started; holds_none = k.holds_none h; not_due = k.undue h; pending = pending }, g.is_run);
-    settled = λ _. record {
-      holds_none = λ t. event_keeps (λ x. x.held) (Interrupt h) (λ g x. refl) (λ x. refl) (state_of u run).harts t ∙ k.holds_none t;
-      undue = λ t. undue_quiet u run (Interrupt h) t refl (event_keeps (λ x. x.count) (Interrupt h) (λ g x. refl) (λ x. refl) (state_of u run).harts t) (k.undue t)
-    }
-  }
+  is_run = (record { there = started_there (state_of u run).harts h started; started = started; holds_none = k.holds_none h; not_due = k.undue h; pending = pending }, g.is_run);
+  settled = λ _. record {
+    holds_none = λ t. event_keeps (λ x. x.held) (Interrupt h) (λ g x. refl) (λ x. refl) (state_of u run).harts t ∙ k.holds_none t;
+    undue = λ t. undue_quiet u run (Interrupt h) t refl (event_keeps (λ x. x.count) (Interrupt h) (λ g x. refl) (λ x. refl) (state_of u run).harts t) (k.undue t);
+  };
+}
 
 -- a start
 start_good : (u : Setup) (run : List Event) (h : ℕ) → Good u run → Settled u run → (hart (state_of u run) h).mode ≡ Pending → Good u (Start h ∷ Flushes h Full ∷ run)
@@ -313,38 +316,41 @@ start_good u run h g k pending =
       is_run = (record { there = pending_there (state_of u run).harts h pending; pending = pending; not_due = undue h; flushed = this (flush_this h Full) }, (k.undue h, g.is_run));
       settled = λ _. record {
         holds_none = λ t. event_keeps (λ x. x.held) (Start h) (λ g x. refl) (λ x. refl) (state_of u run).harts t ∙ k.holds_none t;
-        undue = λ t. undue_quiet u (Flushes h Full ∷ run) (Start h) t refl (event_keeps (λ x. x.count) (Start h) (λ g x. refl) (λ x. refl) (state_of u run).harts t) (undue t)
-      }
+        undue = λ t. undue_quiet u (Flushes h Full ∷ run) (Start h) t refl (event_keeps (λ x. x.count) (Start h) (λ g x. refl) (λ x. refl) (state_of u run).harts t) (undue t);
+      };
     }
 
 -- a form that isn't built
 unbuilt_good : (u : Setup) (run : List Event) (h : ℕ) (code : Code) → Good u run → Settled u run → (hart (state_of u run) h).mode ≡ Started
     → IsNext u (state_of u run) h code → is_built u (state_of u run) h code ≡ false → Good u (Stop h Reason.Unbuilt ∷ run)
 unbuilt_good u run h code g k started next unbuilt = record {
-    is_run = (record { there = started_there (state_of u run).harts h started; started = started; holds_none = k.holds_none h; not_due = k.undue h; code = code; next = next; unbuilt = unbuilt }, g.is_run);
-    settled = λ e. absurd (reason_stands (state_of u run).reason Reason.Unbuilt e)
-  }
+  is_run = (record { there = started_there (state_of u run).harts h started; started = started; holds_none = k.holds_none h; not_due = k.undue h; code = code; next = next; unbuilt = unbuilt }, g.is_run);
+  settled = λ e. absurd (reason_stands (state_of u run).reason Reason.Unbuilt e);
+}
 
 -- a turn
 pub turn_good : (u : Setup) (run : List Event) (h : ℕ) (code : Code) → IsNext u (state_of u run) h code → Good u run → Good u (plain_turn u (state_of u run) h code ++ run)
 unfolding plain_turn
 turn_good u run h code next g = by_reason (state_of u run).reason refl
   where
-  by_pending : (b : Bool) → is_pending u (state_of u run) h (memory u (state_of u run)) ≡ b → Settled u run → (hart (state_of u run) h).mode ≡ Started
-      → Good u ((if b then Interrupt h ∷ [] else instruction u (state_of u run) h code) ++ run)
-  by_pending true e k started = interrupt_good u run h g k started e
-  by_pending false e k started = instruction_good u run h code g k started (fetch_lawful u run h code k started e next)
-  by_built : (b : Bool) → is_built u (state_of u run) h code ≡ b → Settled u run → (hart (state_of u run) h).mode ≡ Started
-      → Good u ((if b then taken_turn u (state_of u run) h code else Stop h Reason.Unbuilt ∷ []) ++ run)
-  by_built true e k started = by_pending (is_pending u (state_of u run) h (memory u (state_of u run))) refl k started
-  by_built false e k started = unbuilt_good u run h code g k started next e
-  by_mode : (m : Mode) → (hart (state_of u run) h).mode ≡ m → Settled u run → Good u (turn_in u (state_of u run) h code m ++ run)
-  by_mode Halted e k = g
-  by_mode Pending e k = start_good u run h g k e
-  by_mode Started e k = by_built (is_built u (state_of u run) h code) refl k e
-  by_reason : (r : Option Reason) → (state_of u run).reason ≡ r → Good u ((if is_some r then [] else turn_in u (state_of u run) h code (hart (state_of u run) h).mode) ++ run)
-  by_reason (Some r) e = g
-  by_reason None e = by_mode (hart (state_of u run) h).mode refl (g.settled e)
+    by_pending : (b : Bool) → is_pending u (state_of u run) h (memory u (state_of u run)) ≡ b → Settled u run → (hart (state_of u run) h).mode ≡ Started
+        → Good u ((if b then Interrupt h ∷ [] else instruction u (state_of u run) h code) ++ run)
+    by_pending true e k started = interrupt_good u run h g k started e
+    by_pending false e k started = instruction_good u run h code g k started (fetch_lawful u run h code k started e next)
+
+    by_built : (b : Bool) → is_built u (state_of u run) h code ≡ b → Settled u run → (hart (state_of u run) h).mode ≡ Started
+        → Good u ((if b then taken_turn u (state_of u run) h code else Stop h Reason.Unbuilt ∷ []) ++ run)
+    by_built true e k started = by_pending (is_pending u (state_of u run) h (memory u (state_of u run))) refl k started
+    by_built false e k started = unbuilt_good u run h code g k started next e
+
+    by_mode : (m : Mode) → (hart (state_of u run) h).mode ≡ m → Settled u run → Good u (turn_in u (state_of u run) h code m ++ run)
+    by_mode Halted e k = g
+    by_mode Pending e k = start_good u run h g k e
+    by_mode Started e k = by_built (is_built u (state_of u run) h code) refl k e
+
+    by_reason : (r : Option Reason) → (state_of u run).reason ≡ r → Good u ((if is_some r then [] else turn_in u (state_of u run) h code (hart (state_of u run) h).mode) ++ run)
+    by_reason (Some r) e = g
+    by_reason None e = by_mode (hart (state_of u run) h).mode refl (g.settled e)
 
 -- the first state
 stopped_empty : (n t : ℕ) → (nth (replicate n (new_hart Halted 0)) t).held ≡ None

@@ -1,14 +1,13 @@
 -- A walk depends on the words that it finds alone.
-use Rattle.std.proofs.Common.{◌≡◌, refl, ℕ, zero, suc, ◌*◌, ◌%◌, ◌^◌, ◌/◌, true, false, Bool, not, ap, sym, ◌∙◌}
-use Rattle.std.specs.Prelude.{if◌then◌else◌, IsTrue, ◌==◌}
+use Rattle.std.proofs.Common.{◌≡◌, refl, ℕ, zero, suc, ◌*◌, ◌%◌, ◌^◌, true, false, Bool, not, ap, ◌∙◌}
+use Rattle.std.specs.Prelude.{if◌then◌else◌, IsTrue}
 use Rattle.rv64_priv.specs.declared.state.Kind.{Kind}
 use Rattle.rv64_priv.specs.declared.state.Regime.{Regime}
 use Rattle.rv64_priv.specs.Bits.{aligned}
 use Rattle.rv64_priv.specs.Pte.{is_bare, is_malformed, is_leaf, ppn}
 use Rattle.rv64_priv.specs.Csr.{regime}
 use Rattle.rv64_priv.specs.Walk.{Levels, Walked, PageFault, AccessFault, walk_of, walk_from, at_leaf, reached, is_ram, is_canonical, entry_place}
-use Rattle.ref_machine.specs.Event.{Event}
-use Rattle.ref_machine.specs.State.{Setup, hart}
+use Rattle.ref_machine.specs.State.{hart}
 use Rattle.ref_machine.specs.Walks.{levels_of}
 use Rattle.ref_machine.specs.Run.{state_of, memory_at}
 use Rattle.ref_machine.specs.Reading.{answering, Finds, FoundIsAllowed}
@@ -19,27 +18,27 @@ step pages r kind va level pte below = if is_malformed pte then PageFault else (
 step_same : (pages : ℕ) (r : Regime) (kind : Kind) (va level pte : ℕ) (x y : Walked) → (is_malformed pte ≡ false → is_leaf pte ≡ false → x ≡ y) → step pages r kind va level pte x ≡ step pages r kind va level pte y
 step_same pages r kind va level pte x y k = go (is_malformed pte) (is_leaf pte) refl refl
   where
-  go : (p q : Bool) → is_malformed pte ≡ p → is_leaf pte ≡ q
-      → (if p then PageFault else (if q then at_leaf pages r kind va level pte else x)) ≡ (if p then PageFault else (if q then at_leaf pages r kind va level pte else y))
-  go true q e f = refl
-  go false true e f = refl
-  go false false e f = k e f
+    go : (p q : Bool) → is_malformed pte ≡ p → is_leaf pte ≡ q
+        → (if p then PageFault else (if q then at_leaf pages r kind va level pte else x)) ≡ (if p then PageFault else (if q then at_leaf pages r kind va level pte else y))
+    go true q e f = refl
+    go false true e f = refl
+    go false false e f = k e f
 
 found_step : (pages : ℕ) (r : Regime) (kind : Kind) (va level : ℕ) (l : Levels) (a : ℕ → ℕ) (place : ℕ)
     → (IsTrue (is_ram pages place) → (l level place ≡ a level) × (is_malformed (a level) ≡ false → is_leaf (a level) ≡ false → Finds pages va l a level (ppn (a level) * 4096)))
     → ((table : ℕ) → Finds pages va l a level table → walk_from pages r kind l va level table ≡ walk_from pages r kind (answering a) va level table)
     → (if not (is_ram pages place) then AccessFault else step pages r kind va level (l level place) (walk_from pages r kind l va level (ppn (l level place) * 4096)))
-      ≡ (if not (is_ram pages place) then AccessFault else step pages r kind va level (a level) (walk_from pages r kind (answering a) va level (ppn (a level) * 4096)))
+    ≡ (if not (is_ram pages place) then AccessFault else step pages r kind va level (a level) (walk_from pages r kind (answering a) va level (ppn (a level) * 4096)))
 found_step pages r kind va level l a place f below = go (is_ram pages place) refl
   where
-  go : (b : Bool) → is_ram pages place ≡ b
-      → (if not b then AccessFault else step pages r kind va level (l level place) (walk_from pages r kind l va level (ppn (l level place) * 4096)))
+    go : (b : Bool) → is_ram pages place ≡ b
+        → (if not b then AccessFault else step pages r kind va level (l level place) (walk_from pages r kind l va level (ppn (l level place) * 4096)))
         ≡ (if not b then AccessFault else step pages r kind va level (a level) (walk_from pages r kind (answering a) va level (ppn (a level) * 4096)))
-  go false e = refl
-  go true e =
-      ap (λ v. step pages r kind va level v (walk_from pages r kind l va level (ppn v * 4096))) ((f e).0)
-      ∙ step_same pages r kind va level (a level) (walk_from pages r kind l va level (ppn (a level) * 4096)) (walk_from pages r kind (answering a) va level (ppn (a level) * 4096))
-          (λ p q. below (ppn (a level) * 4096) ((f e).1 p q))
+    go false e = refl
+    go true e =
+        ap (λ v. step pages r kind va level v (walk_from pages r kind l va level (ppn v * 4096))) ((f e).0)
+        ∙ step_same pages r kind va level (a level) (walk_from pages r kind l va level (ppn (a level) * 4096)) (walk_from pages r kind (answering a) va level (ppn (a level) * 4096))
+        (λ p q. below (ppn (a level) * 4096) ((f e).1 p q))
 
 pub found_from : (pages : ℕ) (r : Regime) (kind : Kind) (va : ℕ) (l : Levels) (a : ℕ → ℕ) (levels table : ℕ) → Finds pages va l a levels table
     → walk_from pages r kind l va levels table ≡ walk_from pages r kind (answering a) va levels table
@@ -54,11 +53,11 @@ found_walk pages r kind va l a f =
 
 pub found_is_allowed : FoundIsAllowed
 found_is_allowed u run h kind va a first second third end is_end f p q r = record {
-    first = first;
-    second = second;
-    third = third;
-    first_past = p;
-    second_past = q;
-    third_past = r;
-    is_end = found_walk u.layout.pages (regime (hart (state_of u run) h).arch) kind va (levels_of (memory_at u first) (memory_at u second) (memory_at u third)) a f ∙ is_end
-  }
+  first = first;
+  second = second;
+  third = third;
+  first_past = p;
+  second_past = q;
+  third_past = r;
+  is_end = found_walk u.layout.pages (regime (hart (state_of u run) h).arch) kind va (levels_of (memory_at u first) (memory_at u second) (memory_at u third)) a f ∙ is_end;
+}

@@ -1,17 +1,14 @@
 -- The guest that prints OK, as equations that compute.
-use Rattle.std.proofs.Common.{◌≡◌, refl, ℕ, ◌≤◌, ◌<◌, ◌-◌, ◌+◌, ◌*◌, List, [], ◌∷◌, Some, None, Option, true, false, length, cond, eqb, lit<, ℤ, pos, negsuc, arith}
+use Rattle.std.proofs.Common.{◌≡◌, refl, ℕ, List, [], ◌∷◌, Some, pos}
 use Rattle.elf_load.specs.declared.image.Part.{Part}
 use Rattle.rv64_decode.specs.declared.instruction.Instr.{Instr}
-use Rattle.rv64_decode.specs.declared.instruction.Instr.TheVariants.{Lui, Addi, Sb, Sw, Ld, Sd, Csrrw}
+use Rattle.rv64_decode.specs.declared.instruction.Instr.TheVariants.{Lui, Addi, Sb, Sw}
 use Rattle.rv64_decode.specs.Encoding.{encoding_of}
-use Rattle.rv64_priv.specs.declared.state.Arch.{Arch}
 use Rattle.rv64_priv.specs.Walk.{walk_of}
 use Rattle.rv64_exec.specs.Code.{Code}
-use Rattle.rv64_exec.specs.Plan.{need_of, reg}
+use Rattle.rv64_exec.specs.Plan.{need_of}
 use Rattle.rv64_exec.specs.Finish.{done}
-use Rattle.step_laws.specs.Words.{ram_word}
 use Rattle.ref_machine.specs.declared.reason.Reason.{Reason}
-use Rattle.ref_machine.specs.Memory.{Memory}
 use Rattle.ref_machine.specs.Image.{image_memory}
 use Rattle.ref_machine.specs.Sbi.{sbi_of}
 use Rattle.ref_machine.specs.Perform.{perform}
@@ -19,7 +16,7 @@ use Rattle.ref_machine.specs.Change.{executed}
 use Rattle.ref_machine.specs.Lawful.{flushing}
 use Rattle.ref_machine.specs.Now.{exec_now}
 use Rattle.ref_machine.specs.Built.{is_built}
-use Rattle.ref_machine.specs.State.{Setup, State, Hart, Started, hart, reset, new_hart, initial}
+use Rattle.ref_machine.specs.State.{Setup, State, hart, initial}
 use Rattle.ref_machine.specs.Plain.{executing, instruction, plain_turn, after_turn}
 
 -- the state behind turns of hart 0 whose words decode so

@@ -1,7 +1,6 @@
 -- Turns in a row.
-use Rattle.std.proofs.Common.{◌≡◌, refl, ℕ, zero, suc, ◌+◌, ◌++◌, List, [], ◌∷◌, Some, None, Option, arith, ap, sym, ◌∙◌, subst}
+use Rattle.std.proofs.Common.{◌≡◌, refl, ℕ, zero, suc, ◌+◌, ◌++◌, List, [], ◌∷◌, None, arith, ap, sym, ◌∙◌, subst}
 use Rattle.std.specs.Prelude.{replicate, IsSome}
-use Rattle.ref_machine.specs.declared.reason.Reason.{Reason}
 use Rattle.ref_machine.specs.Event.{Event}
 use Rattle.ref_machine.specs.State.{Setup, State}
 use Rattle.ref_machine.specs.Change.{state_after}
@@ -9,7 +8,7 @@ use Rattle.ref_machine.specs.Run.{state_of}
 use Rattle.ref_machine.specs.Plain.{IsPlainRun, turn, over, plain_turn, states_after}
 use Rattle.ref_machine.specs.PlainState.{PlainState}
 use Rattle.ref_machine.specs.Shows.{Shows, Turned}
-use Rattle.ref_machine.specs.Ran.{GoesOn, Ran}
+use Rattle.ref_machine.specs.Ran.{Ran}
 
 state_append : (u : Setup) (es run : List Event) → state_of u (es ++ run) ≡ states_after es (state_of u run)
 state_append u [] run = refl

@@ -1,18 +1,18 @@
 -- What the reference machine does for a store in bare mode, by what the machine on one thread does.
 use Rattle.std.proofs.Common.{◌≡◌, refl, ℕ, ◌≤◌, ◌<◌, ◌+◌, ◌-◌, ◌*◌, ◌/◌, ◌%◌, ◌^◌, ◌++◌, List, [], ◌∷◌, Some, None, Option, true, false, Bool, ◌&&◌, ◌||◌, length, length-set, arith, rules, ap, sym, ◌∙◌, subst, option_to_list}
 use Rattle.std.specs.Prelude.{◌==◌, nat_le, nat_lt, if◌then◌else◌, slice_set, slice_index, take}
-use Rattle.std.proofs.lemmas.Bool.{le-leb, lt-leb, lt-ltb, le-ltb, eq-eqb, eqb-true, leb-true, leb-false, ltb-true, ltb-false}
+use Rattle.std.proofs.lemmas.Bool.{le-leb, lt-leb, le-ltb, eq-eqb, eqb-true, leb-true, ltb-true, ltb-false}
 use Rattle.rv64_priv.specs.declared.state.Kind.{Kind}
 use Rattle.rv64_priv.specs.Bits.{aligned}
 use Rattle.rv64_priv.specs.Walk.{Walked, Leaf, AccessFault, reached, is_ram, is_device}
 use Rattle.rv64_exec.specs.declared.needs.Answer.{Answer}
 use Rattle.step_laws.specs.Words.{first_ram_word, ram_word}
 use Rattle.ref_machine.specs.declared.reason.Reason.{Reason}
-use Rattle.ref_machine.specs.Memory.{Memory, Entry, One, Two, written, write, write_of, replaced, store_entry}
+use Rattle.ref_machine.specs.Memory.{Memory, Entry, One, Two, written, write, write_of, replaced}
 use Rattle.ref_machine.specs.Event.{Outcome}
 use Rattle.ref_machine.specs.State.{Setup}
-use Rattle.ref_machine.specs.Access.{Spot, AtRam, AtDevice, Faults, Reach, InRam, OnDevice, Fault, spot_of, spot_at, crosses_page, second_va, one_page, two_pages, second_page, reach}
-use Rattle.ref_machine.specs.Device.{DeviceStore, Ends, Ignored, is_uart, is_finisher, finished, device_stored}
+use Rattle.ref_machine.specs.Access.{Spot, AtRam, AtDevice, Faults, Reach, InRam, OnDevice, spot_of, spot_at, crosses_page, second_va, one_page, two_pages, second_page, reach}
+use Rattle.ref_machine.specs.Device.{DeviceStore, Ends, Ignored, is_uart, is_finisher, finished}
 use Rattle.ref_machine.specs.Perform.{stored, device_done, prints}
 use Rattle.ref_machine.specs.Change as change
 use Rattle.ref_machine.specs.Built.{is_outcome_built}
@@ -85,9 +85,9 @@ does_ram u p es va w value second size shows here =
     let page : is_ram u.layout.pages (aligned 12 va) ≡ true = ram_page u.layout.pages va true (subst (λ n. (nat_le (2 ^ 31) va && nat_lt (index va) n) ≡ true) size inside) in
     let uncrossed : crosses_page va w ≡ false = le-ltb 4096 (va % 4096 + w) (omega (arith, bound)) in
     let lies : reach Kind.Store va w (first_of u.layout.pages va) second ≡ InRam (One (ram_word va) (va % 8) w)
-        = within va w (first_of u.layout.pages va) second uncrossed
-        ∙ ap (one_page w) (spot_there u.layout.pages va false (ap (λ b. b || is_device (aligned 12 va)) page) (no_device va above))
-        ∙ ap (λ b. InRam (if b then One (ram_word va) (va % 8) w else Two (ram_word va) (ram_word va + 1) (va % 8) w)) fits in
+    = within va w (first_of u.layout.pages va) second uncrossed
+    ∙ ap (one_page w) (spot_there u.layout.pages va false (ap (λ b. b || is_device (aligned 12 va)) page) (no_device va above))
+    ∙ ap (λ b. InRam (if b then One (ram_word va) (va % 8) w else Two (ram_word va) (ram_word va + 1) (va % 8) w)) fits in
     let new = replaced (slice_index p.ram (index va)) (va % 8) w value in
     record {
       entry = Some (write_of (ram_word va) new ∷ []);
@@ -261,7 +261,7 @@ no_store u p es va w value second small size word uart finisher = go (crosses_pa
     go true e =
         let over : 4096 < va % 4096 + w = ltb-true 4096 (va % 4096 + w) e in
         no_crossing u p es va w value (spot_of Kind.Store (second_va va) second) (is_ram u.layout.pages (aligned 12 va) || is_device (aligned 12 va)) (is_device va)
-            (lt-leb (va % 8 + w) 8 (omega (arith, over, small))) refl
+        (lt-leb (va % 8 + w) 8 (omega (arith, over, small))) refl
     go false e = no_one_page u p es va w value (is_ram u.layout.pages (aligned 12 va) || is_device (aligned 12 va)) (is_device va) size word uart finisher refl refl
 
 -- a store
@@ -272,12 +272,14 @@ served_store u p es va w value second small size shows = by_word (is_in_word p.r
     by_finisher : (b : Bool) → is_in_word p.ram w va ≡ false → is_uart va w ≡ false → is_finisher va w ≡ b → Served u p es (does_at u p es va w value (reach Kind.Store va w (first_of u.layout.pages va) second)) (if b then ended_by p (finished value) else None)
     by_finisher true word uart e = served_finisher u p es va w value second shows uart e
     by_finisher false word uart e = no_store u p es va w value second small size word uart e
+
     by_uart : (b : Bool) → is_in_word p.ram w va ≡ false → is_uart va w ≡ b
         → Served u p es (does_at u p es va w value (reach Kind.Store va w (first_of u.layout.pages va) second)) (if b then Some (if va == 0x10000000 then printed p (value % 256) else no_effect p) else (if is_finisher va w then ended_by p (finished value) else None))
     by_uart true word e = does_uart u p es va w value second shows e
     by_uart false word e = by_finisher (is_finisher va w) word e refl
+
     by_word : (b : Bool) → is_in_word p.ram w va ≡ b
         → Served u p es (does_at u p es va w value (reach Kind.Store va w (first_of u.layout.pages va) second)) (if b then Some (in_ram p w va value) else
-          (if is_uart va w then Some (if va == 0x10000000 then printed p (value % 256) else no_effect p) else (if is_finisher va w then ended_by p (finished value) else None)))
+        (if is_uart va w then Some (if va == 0x10000000 then printed p (value % 256) else no_effect p) else (if is_finisher va w then ended_by p (finished value) else None)))
     by_word true e = does_ram u p es va w value second size shows e
     by_word false e = by_uart (is_uart va w) e refl

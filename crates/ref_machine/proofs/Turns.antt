@@ -1,14 +1,14 @@
 -- A turn of the machine on one thread is a turn of the plain run.
-use Rattle.std.proofs.Common.{inl, inr, ◌≡◌, refl, ℕ, zero, suc, ◌≤◌, ◌<◌, ◌+◌, ◌-◌, ◌*◌, ◌/◌, ◌%◌, ◌^◌, ◌++◌, List, [], ◌∷◌, Some, None, Option, true, false, Bool, not, ◌&&◌, ◌||◌, length, arith, ap, sym, ◌∙◌, subst, option_to_list}
-use Rattle.std.specs.Prelude.{◌⊎◌, MatchBool, IsSome, ◌==◌, is_some, nat_le, nat_lt, if◌then◌else◌, slice_index, replicate}
-use Rattle.std.proofs.lemmas.Bool.{leb-true, ltb-true}
+use Rattle.std.proofs.Common.{inl, inr, ◌≡◌, refl, ℕ, zero, suc, ◌≤◌, ◌<◌, ◌+◌, ◌-◌, ◌*◌, ◌/◌, ◌%◌, ◌^◌, ◌++◌, List, [], ◌∷◌, Some, None, Option, true, false, Bool, not, ◌&&◌, length, arith, ap, sym, ◌∙◌, subst, option_to_list}
+use Rattle.std.specs.Prelude.{◌⊎◌, MatchBool, IsSome, ◌==◌, is_some, nat_le, nat_lt, if◌then◌else◌, replicate}
+use Rattle.std.proofs.lemmas.Bool.{ltb-true}
 use Rattle.rv64_decode.specs.declared.instruction.Instr.{Instr}
 use Rattle.rv64_decode.specs.Encoding.{Decodes}
 use Rattle.rv64_priv.specs.declared.state.Arch.{Arch}
 use Rattle.rv64_priv.specs.declared.state.Kind.{Kind}
 use Rattle.rv64_priv.specs.Bits.{aligned}
 use Rattle.rv64_priv.specs.Csr.{regime}
-use Rattle.rv64_priv.specs.Walk.{Walked, Leaf, AccessFault, reached, is_ram, walk_of}
+use Rattle.rv64_priv.specs.Walk.{Walked, Leaf, AccessFault, walk_of}
 use Rattle.rv64_exec.specs.Code.{Code, no_code}
 use Rattle.rv64_exec.specs.Built as exec
 use Rattle.rv64_exec.specs.declared.needs.Need.{Need}
@@ -16,13 +16,12 @@ use Rattle.rv64_exec.specs.declared.needs.Answer.{Answer}
 use Rattle.rv64_exec.specs.Plan.{need_of}
 use Rattle.rv64_exec.specs.Finish.{after, after_decoded}
 use Rattle.rv64_exec.proofs.Kept.{keeps_satp, keeps_sie, keeps_aligned, built_need}
-use Rattle.step_laws.specs.Words.{first_ram_word}
 use Rattle.ref_machine.specs.declared.reason.Reason.{Reason}
-use Rattle.ref_machine.specs.Memory.{Memory, Entry, written}
+use Rattle.ref_machine.specs.Memory.{Entry, written}
 use Rattle.ref_machine.specs.Event.{Event, Outcome, Exec, Interrupt, Stop}
-use Rattle.ref_machine.specs.State.{Setup, State, Hart, Mode, Command, Started, Halted, Pending, hart, nth, new_hart, memory}
+use Rattle.ref_machine.specs.State.{Setup, State, Hart, Command, Started, Halted, hart, nth, new_hart, memory}
 use Rattle.ref_machine.specs.Access.{code_word}
-use Rattle.ref_machine.specs.Walks.{need, access_of, first_now, second_now, walked_now, levels_of}
+use Rattle.ref_machine.specs.Walks.{need, access_of, first_now, second_now, levels_of}
 use Rattle.ref_machine.specs.Perform.{perform}
 use Rattle.ref_machine.specs.Change as change
 use Rattle.ref_machine.specs.Change.{state_after, executed, first_reason}
@@ -31,11 +30,11 @@ use Rattle.ref_machine.specs.Now.{IsCode, IsNext, is_pending, fetch_end, fetch_n
 use Rattle.ref_machine.specs.Built.{is_built, is_instr_built, is_outcome_built}
 use Rattle.ref_machine.specs.Lawful.{flushing}
 use Rattle.ref_machine.specs.Plain.{plain_turn, turn_in, running_turn, taken_turn, instruction, executing, with_stops, flush_events, states_after, after_turn}
-use Rattle.ref_machine.specs.PlainState.{PlainState, Effect, no_effect, index, is_in, next_word, effect_of_need, limited, retired, unbuilt, after_effect, after_word, IsTurnIn}
+use Rattle.ref_machine.specs.PlainState.{PlainState, Effect, index, is_in, next_word, effect_of_need, limited, retired, unbuilt, after_effect, after_word, IsTurnIn}
 use Rattle.ref_machine.specs.Shows.{first_hart, other_harts, shown, ShowsRam, Shows, Turned}
 use Rattle.ref_machine.proofs.Plainly.{fetched_leaf}
 use Rattle.ref_machine.proofs.Bare.{bare_walk, page_and_place, ram_page}
-use Rattle.ref_machine.proofs.Served.{outcome, Does, Served, served_store}
+use Rattle.ref_machine.proofs.Served.{outcome, Served, served_store}
 
 -- the hart fetches
 fetch_state : (u : Setup) (p : PlainState) (es : List Entry) (sc : List Command) (code : Code) → is_leaf_end (fetch_end u (shown p None es sc) 0) ≡ true
@@ -141,7 +140,7 @@ fetch_by : (u : Setup) (p : PlainState) (es : List Entry) (sc : List Command) (b
 fetch_by u p es sc b bare size here =
     bare_walk u.layout.pages (regime p.arch) Kind.Fetch _ p.arch.pc bare
     ∙ ap (λ x. if x then Leaf 0xcf (aligned 12 p.arch.pc) 0 else AccessFault)
-        (ram_page u.layout.pages p.arch.pc b (subst (λ n. (nat_le (2 ^ 31) p.arch.pc && nat_lt (index p.arch.pc) n) ≡ b) size here))
+    (ram_page u.layout.pages p.arch.pc b (subst (λ n. (nat_le (2 ^ 31) p.arch.pc && nat_lt (index p.arch.pc) n) ≡ b) size here))
 
 -- memory has the next word
 next_at : (u : Setup) (p : PlainState) (es : List Entry) → ShowsRam p.ram (written u.image es) → is_in p.ram p.arch.pc ≡ true
@@ -171,8 +170,8 @@ does_need u p es sc code Need.Nothing bare size ram built = record { entry = Non
 does_need u p es sc code (Need.Store va w value) bare size ram built =
     let s = shown p (Some code) es sc in
     subst (λ f. Served u p es (perform u s 0 f (second_now u s 0 (access_of (Need.Store va w value))) (Need.Store va w value)) (effect_of_need p (Need.Store va w value)))
-        (sym (bare_walk u.layout.pages (regime p.arch) Kind.Store _ va bare))
-        (served_store u p es va w value (second_now u s 0 (access_of (Need.Store va w value))) (small w built) size ram)
+    (sym (bare_walk u.layout.pages (regime p.arch) Kind.Store _ va bare))
+    (served_store u p es va w value (second_now u s 0 (access_of (Need.Store va w value))) (small w built) size ram)
   where
     small : (w : ℕ) → (w ≡ 1) ⊎ (w ≡ 4) → w ≤ 8
     small w (inl e) = omega (arith, e)
@@ -202,21 +201,21 @@ instr_turn u p es sc word i k _ none here bare quiet size ram limit harts pc bui
     let code : Code = record { word = word; instr = Some i } in
     let leaf : is_leaf_end (fetch_end u (shown p None es sc) 0) ≡ true = ap is_leaf_end (fetch_by u p es sc true bare size here) in
     let no : is_built u (shown p None es sc) 0 code ≡ false
-        = ap (λ s. not (is_pending u (shown p None es sc) 0 (memory u (shown p None es sc))) && is_leaf_end (fetch_end u (shown p None es sc) 0) && exec.is_built i && is_outcome_built (outcome_now u s 0)) (fetch_state u p es sc code leaf)
-        ∙ ap (λ b. not (is_pending u (shown p None es sc) 0 (memory u (shown p None es sc))) && is_leaf_end (fetch_end u (shown p None es sc) 0) && exec.is_built i && b) served
-        ∙ and_false (not (is_pending u (shown p None es sc) 0 (memory u (shown p None es sc))) && is_leaf_end (fetch_end u (shown p None es sc) 0) && exec.is_built i) in
+    = ap (λ s. not (is_pending u (shown p None es sc) 0 (memory u (shown p None es sc))) && is_leaf_end (fetch_end u (shown p None es sc) 0) && exec.is_built i && is_outcome_built (outcome_now u s 0)) (fetch_state u p es sc code leaf)
+    ∙ ap (λ b. not (is_pending u (shown p None es sc) 0 (memory u (shown p None es sc))) && is_leaf_end (fetch_end u (shown p None es sc) 0) && exec.is_built i && b) served
+    ∙ and_false (not (is_pending u (shown p None es sc) 0 (memory u (shown p None es sc))) && is_leaf_end (fetch_end u (shown p None es sc) 0) && exec.is_built i) in
     record { entries = es; script = sc; state = unbuilt_state u p es sc code none no; harts = harts; size = size; ram = ram; limit = limit; bare = bare; quiet = quiet; aligned = pc }
 instr_turn u p es sc word i k _ none here bare quiet size ram limit harts pc built (Some e) is_effect does =
     let code : Code = record { word = word; instr = Some i } in
     let s = shown p None es sc in
     let leaf : is_leaf_end (fetch_end u s 0) ≡ true = ap is_leaf_end (fetch_by u p es sc true bare size here) in
     let yes : is_built u s 0 code ≡ true
-        = ap (λ x. not (is_pending u s 0 (memory u s)) && is_leaf_end (fetch_end u s 0) && exec.is_built i && is_outcome_built (outcome_now u x 0)) (fetch_state u p es sc code leaf)
-        ∙ ap (λ d. not (is_pending u s 0 (memory u s)) && is_leaf_end (fetch_end u s 0) && exec.is_built i && is_outcome_built d) does.is_outcome
-        ∙ ap (λ b. not b && is_leaf_end (fetch_end u s 0) && exec.is_built i && is_outcome_built (outcome does.entry does.bytes e.reason)) (quietly u p es sc quiet)
-        ∙ ap (λ b. b && exec.is_built i && is_outcome_built (outcome does.entry does.bytes e.reason)) leaf
-        ∙ ap (λ b. b && is_outcome_built (outcome does.entry does.bytes e.reason)) built
-        ∙ does.built in
+    = ap (λ x. not (is_pending u s 0 (memory u s)) && is_leaf_end (fetch_end u s 0) && exec.is_built i && is_outcome_built (outcome_now u x 0)) (fetch_state u p es sc code leaf)
+    ∙ ap (λ d. not (is_pending u s 0 (memory u s)) && is_leaf_end (fetch_end u s 0) && exec.is_built i && is_outcome_built d) does.is_outcome
+    ∙ ap (λ b. not b && is_leaf_end (fetch_end u s 0) && exec.is_built i && is_outcome_built (outcome does.entry does.bytes e.reason)) (quietly u p es sc quiet)
+    ∙ ap (λ b. b && exec.is_built i && is_outcome_built (outcome does.entry does.bytes e.reason)) leaf
+    ∙ ap (λ b. b && is_outcome_built (outcome does.entry does.bytes e.reason)) built
+    ∙ does.built in
     record {
       entries = option_to_list does.entry ++ es;
       script = sc;
@@ -262,28 +261,28 @@ found_turn : (u : Setup) (p : PlainState) (s : State) (k : Shows u p s) (found :
 unfolding is_built
 found_turn u p s k None none here =
     no_turn u p s k (record { word = next_word p; instr = None }) none
-        (not_instr (not (is_pending u (shown p None k.entries k.script) 0 (memory u (shown p None k.entries k.script)))) (is_leaf_end (fetch_end u (shown p None k.entries k.script) 0)) _)
+    (not_instr (not (is_pending u (shown p None k.entries k.script) 0 (memory u (shown p None k.entries k.script)))) (is_leaf_end (fetch_end u (shown p None k.entries k.script) 0)) _)
 found_turn u p s k (Some i) none here = go (exec.is_built i) refl
   where
     go : (b : Bool) → exec.is_built i ≡ b
         → Shows u (if b then after_effect p i (effect_of_need p (need_of p.arch i)) else unbuilt p) (after_turn u 0 (record { word = next_word p; instr = Some i }) s)
     go false e = no_turn u p s k (record { word = next_word p; instr = Some i }) none
         (ap (λ b. not (is_pending u (shown p None k.entries k.script) 0 (memory u (shown p None k.entries k.script))) && is_leaf_end (fetch_end u (shown p None k.entries k.script) 0) && b
-            && is_outcome_built (outcome_now u (state_after (fetch_now u (shown p None k.entries k.script) 0 (record { word = next_word p; instr = Some i })) (shown p None k.entries k.script)) 0)) e
+        && is_outcome_built (outcome_now u (state_after (fetch_now u (shown p None k.entries k.script) 0 (record { word = next_word p; instr = Some i })) (shown p None k.entries k.script)) 0)) e
         ∙ not_instr (not (is_pending u (shown p None k.entries k.script) 0 (memory u (shown p None k.entries k.script)))) (is_leaf_end (fetch_end u (shown p None k.entries k.script) 0)) _)
     go true e =
         subst (λ x. Shows u (after_effect p i (effect_of_need p (need_of p.arch i))) (after_turn u 0 (record { word = next_word p; instr = Some i }) x)) (sym k.state)
         (instr_turn u p k.entries k.script (next_word p) i
-            (record { entries = k.entries; script = k.script; state = refl; harts = k.harts; size = k.size; ram = k.ram; limit = k.limit; bare = k.bare; quiet = k.quiet; aligned = k.aligned }) refl
-            none here k.bare k.quiet k.size k.ram k.limit k.harts k.aligned e
-            (effect_of_need p (need_of p.arch i)) refl
-            (does_need u p k.entries k.script (record { word = next_word p; instr = Some i }) (need_of p.arch i) k.bare k.size k.ram (built_need p.arch i e)))
+        (record { entries = k.entries; script = k.script; state = refl; harts = k.harts; size = k.size; ram = k.ram; limit = k.limit; bare = k.bare; quiet = k.quiet; aligned = k.aligned }) refl
+        none here k.bare k.quiet k.size k.ram k.limit k.harts k.aligned e
+        (effect_of_need p (need_of p.arch i)) refl
+        (does_need u p k.entries k.script (record { word = next_word p; instr = Some i }) (need_of p.arch i) k.bare k.size k.ram (built_need p.arch i e)))
 
 next_in : (u : Setup) (p : PlainState) (s : State) (k : Shows u p s) (code : Code) → is_in p.ram p.arch.pc ≡ true → IsNext u s 0 code → (code.word ≡ next_word p) × Decodes code.word code.instr
 next_in u p s k code here next =
     let shown_next : IsNext u (shown p None k.entries k.script) 0 code = subst (λ x. IsNext u x 0 code) k.state next in
     let leaf : IsCode (written u.image k.entries) p.arch.pc (Leaf 0xcf (aligned 12 p.arch.pc) 0) code
-        = subst (λ w. IsCode (written u.image k.entries) p.arch.pc w code) (fetch_by u p k.entries k.script true k.bare k.size here) shown_next in
+    = subst (λ w. IsCode (written u.image k.entries) p.arch.pc w code) (fetch_by u p k.entries k.script true k.bare k.size here) shown_next in
     (leaf.0 ∙ sym (next_at u p k.entries k.ram here), leaf.1)
 
 turned_in : (p q : PlainState) → p.reason ≡ None → is_in p.ram p.arch.pc ≡ true → IsTurnIn p q → Turned 0 p q
@@ -291,13 +290,13 @@ turned_in p q none here t = record {
   code = λ u s k _. (
     record { word = next_word p; instr = t.found },
     subst (λ x. IsNext u x 0 (record { word = next_word p; instr = t.found })) (sym k.state)
-    (subst (λ w. IsCode (written u.image k.entries) p.arch.pc w (record { word = next_word p; instr = t.found })) (sym (fetch_by u p k.entries k.script true k.bare k.size here))
+        (subst (λ w. IsCode (written u.image k.entries) p.arch.pc w (record { word = next_word p; instr = t.found })) (sym (fetch_by u p k.entries k.script true k.bare k.size here))
         (next_at u p k.entries k.ram here, t.decodes)),
   );
   next = λ u s k code next.
-    let w = next_in u p s k code here next in
-    subst (λ x. Shows u x (after_turn u 0 code s)) (sym t.is_next)
-    (subst (λ c. Shows u (after_word p t.found) (after_turn u 0 c s)) (code_one p t.found code t.only w.0 w.1) (found_turn u p s k t.found none here));
+      let w = next_in u p s k code here next in
+      subst (λ x. Shows u x (after_turn u 0 code s)) (sym t.is_next)
+      (subst (λ c. Shows u (after_word p t.found) (after_turn u 0 c s)) (code_one p t.found code t.only w.0 w.1) (found_turn u p s k t.found none here));
 }
 
 turned_out : (p q : PlainState) → p.reason ≡ None → is_in p.ram p.arch.pc ≡ false → q ≡ unbuilt p → Turned 0 p q
@@ -306,14 +305,14 @@ turned_out p q none out is_next = record {
   code = λ u s k _. (
     no_code,
     subst (λ x. IsNext u x 0 no_code) (sym k.state)
-    (subst (λ w. IsCode (written u.image k.entries) p.arch.pc w no_code) (sym (fetch_by u p k.entries k.script false k.bare k.size out)) refl),
+        (subst (λ w. IsCode (written u.image k.entries) p.arch.pc w no_code) (sym (fetch_by u p k.entries k.script false k.bare k.size out)) refl),
   );
   next = λ u s k code next.
-    subst (λ x. Shows u x (after_turn u 0 code s)) (sym is_next)
-    (no_turn u p s k code none
-        (ap (λ w. not (is_pending u (shown p None k.entries k.script) 0 (memory u (shown p None k.entries k.script))) && is_leaf_end w && is_instr_built code.instr
-            && is_outcome_built (outcome_now u (state_after (fetch_now u (shown p None k.entries k.script) 0 code) (shown p None k.entries k.script)) 0)) (fetch_by u p k.entries k.script false k.bare k.size out)
-        ∙ not_leaf (not (is_pending u (shown p None k.entries k.script) 0 (memory u (shown p None k.entries k.script)))) (is_instr_built code.instr) _));
+      subst (λ x. Shows u x (after_turn u 0 code s)) (sym is_next)
+      (no_turn u p s k code none
+      (ap (λ w. not (is_pending u (shown p None k.entries k.script) 0 (memory u (shown p None k.entries k.script))) && is_leaf_end w && is_instr_built code.instr
+      && is_outcome_built (outcome_now u (state_after (fetch_now u (shown p None k.entries k.script) 0 code) (shown p None k.entries k.script)) 0)) (fetch_by u p k.entries k.script false k.bare k.size out)
+      ∙ not_leaf (not (is_pending u (shown p None k.entries k.script) 0 (memory u (shown p None k.entries k.script)))) (is_instr_built code.instr) _));
 }
 
 -- a turn of hart 0 that is taken
@@ -363,11 +362,11 @@ turned_other (suc h) p positive = record {
   code = λ u s k _. (
     no_code,
     subst (λ x. IsNext u x (suc h) no_code) (sym k.state)
-    (subst (λ (t : Hart). IsCode (written u.image k.entries) t.arch.pc (walked_by u k.entries t) no_code) (sym (halted (p.harts - 1) h))
-    (subst (λ w. IsCode (written u.image k.entries) 0 w no_code) (sym (bare_walk u.layout.pages (regime (new_hart Halted 0).arch) Kind.Fetch _ 0 refl)) refl)),
+        (subst (λ (t : Hart). IsCode (written u.image k.entries) t.arch.pc (walked_by u k.entries t) no_code) (sym (halted (p.harts - 1) h))
+        (subst (λ w. IsCode (written u.image k.entries) 0 w no_code) (sym (bare_walk u.layout.pages (regime (new_hart Halted 0).arch) Kind.Fetch _ 0 refl)) refl)),
   );
   next = λ u s k code next.
-    subst (λ x. Shows u p x) (sym (halted_same u (suc h) code s (ap (λ (x : State). (hart x (suc h)).mode) k.state ∙ ap (λ (t : Hart). t.mode) (halted (p.harts - 1) h)))) k;
+      subst (λ x. Shows u p x) (sym (halted_same u (suc h) code s (ap (λ (x : State). (hart x (suc h)).mode) k.state ∙ ap (λ (t : Hart). t.mode) (halted (p.harts - 1) h)))) k;
 }
 
 -- the number of harts stays

@@ -1,22 +1,19 @@
 -- Facts on runs that go on, with no cases on events: what a composition of runs stands on.
-use Rattle.std.proofs.Common.{◌≡◌, refl, ℕ, ◌≤◌, ◌<◌, ◌+◌, ◌++◌, List, [], ◌∷◌, Some, None, Option, true, false, Bool, ◌&&◌, arith, ap, sym, ◌∙◌, subst, option_to_list, slice_set, length, length-set, not}
-use Rattle.std.specs.Prelude.{◌≢◌, ◌==◌, if◌then◌else◌, IsTrue}
-use Rattle.std.proofs.lemmas.Bool.{ne_eqb, eq-eqb, eqb-true}
+use Rattle.std.proofs.Common.{◌≡◌, refl, ℕ, ◌<◌, ◌++◌, List, [], ◌∷◌, Some, None, Option, true, false, Bool, ◌&&◌, ap, sym, ◌∙◌, subst, slice_set, length, length-set, not}
+use Rattle.std.specs.Prelude.{◌==◌, if◌then◌else◌}
+use Rattle.std.proofs.lemmas.Bool.{eq-eqb, eqb-true}
 use Rattle.std.proofs.lemmas.List.{get_or-set_other, get_or-set_same}
 use Rattle.std.specs.List.{list_all}
-use Rattle.rv64_priv.specs.declared.state.Arch.{Arch}
 use Rattle.rv64_priv.specs.declared.state.Kind.{Kind}
 use Rattle.rv64_priv.specs.Csr.{regime}
 use Rattle.rv64_priv.specs.Walk.{Walked, Leaf, PageFault, AccessFault, walk_of}
-use Rattle.rv64_priv.specs.Flush.{Flush, covers}
-use Rattle.rv64_exec.specs.Code.{Code}
-use Rattle.ref_machine.specs.Past.{Since, now, later, HasSince, this, before}
-use Rattle.ref_machine.specs.Memory.{written}
-use Rattle.ref_machine.specs.Event.{Event, Outcome, Starting, Fetch, Exec, GiveUp, Interrupt, Flushes, Start, Stop, Await, SnapBegin, SnapEnd, Dump, actor_of, did_of, entry_of}
-use Rattle.ref_machine.specs.State.{Setup, State, Hart, Halted, new_hart, initial, nth, hart, memory}
-use Rattle.ref_machine.specs.Change.{state_after, part_next, has_part, awaited, with_start, harts_next}
-use Rattle.ref_machine.specs.Run.{state_of, memory_at, is_of, flushes, covers_leaf, renews, includes, started_by, hart_next, part_of}
-use Rattle.ref_machine.specs.Walks.{walked, levels_of}
+use Rattle.rv64_priv.specs.Flush.{covers}
+use Rattle.ref_machine.specs.Past.{Since, later, HasSince, before}
+use Rattle.ref_machine.specs.Event.{Event, Starting, Flushes, actor_of, did_of}
+use Rattle.ref_machine.specs.State.{Setup, State, Hart, Halted, new_hart, initial, nth, hart}
+use Rattle.ref_machine.specs.Change.{state_after, part_next, has_part, awaited, with_start}
+use Rattle.ref_machine.specs.Run.{state_of, memory_at, is_of, covers_leaf, renews, started_by, hart_next}
+use Rattle.ref_machine.specs.Walks.{levels_of}
 use Rattle.ref_machine.specs.Lawful.{IsAllowed}
 use Rattle.ref_machine.specs.Laws.{HartsAreParts, WalksStayAllowed}
 use Rattle.ref_machine.proofs.Harts.{start_keeps}
@@ -51,9 +48,9 @@ arch_other e s h other =
     start_keeps (λ t. t.arch) (λ g t. refl) (if has_part e then slice_set s.harts (actor_of e) (part_next e (nth s.harts (actor_of e))) else s.harts) (did_of e).starts h
     ∙ by_part (has_part e)
   where
-  by_part : (b : Bool) → (nth (if b then slice_set s.harts (actor_of e) (part_next e (nth s.harts (actor_of e))) else s.harts) h).arch ≡ (nth s.harts h).arch
-  by_part true = ap (λ t. t.arch) (set_other s.harts (actor_of e) h (part_next e (nth s.harts (actor_of e))) other)
-  by_part false = refl
+    by_part : (b : Bool) → (nth (if b then slice_set s.harts (actor_of e) (part_next e (nth s.harts (actor_of e))) else s.harts) h).arch ≡ (nth s.harts h).arch
+    by_part true = ap (λ t. t.arch) (set_other s.harts (actor_of e) h (part_next e (nth s.harts (actor_of e))) other)
+    by_part false = refl
 
 pub arch_others : (u : Setup) (h : ℕ) (es run : List Event) → Others h es → (hart (state_of u (es ++ run)) h).arch ≡ (hart (state_of u run) h).arch
 arch_others u h [] run p = refl
@@ -77,14 +74,14 @@ renews_others h va end (e ∷ es) p = (renews_other h va end e p.0, renews_other
 pub allowed_more : (u : Setup) (h : ℕ) (kind : Kind) (va : ℕ) (end : Walked) (es run : List Event) → Passing (renews h va end) es
     → (hart (state_of u (es ++ run)) h).arch ≡ (hart (state_of u run) h).arch → IsAllowed u run h kind va end → IsAllowed u (es ++ run) h kind va end
 allowed_more u h kind va end es run p same k = record {
-    first = k.first;
-    second = k.second;
-    third = k.third;
-    first_past = k.first_past;
-    second_past = k.second_past;
-    third_past = since_more (renews h va end) k.third es run p k.third_past;
-    is_end = ap (λ a. walk_of u.layout.pages (regime a) kind (levels_of (memory_at u k.first) (memory_at u k.second) (memory_at u k.third)) va) same ∙ k.is_end
-  }
+  first = k.first;
+  second = k.second;
+  third = k.third;
+  first_past = k.first_past;
+  second_past = k.second_past;
+  third_past = since_more (renews h va end) k.third es run p k.third_past;
+  is_end = ap (λ a. walk_of u.layout.pages (regime a) kind (levels_of (memory_at u k.first) (memory_at u k.second) (memory_at u k.third)) va) same ∙ k.is_end;
+}
 
 -- and over all events of other actors
 pub allowed_others : (u : Setup) (h : ℕ) (kind : Kind) (va : ℕ) (end : Walked) (es run : List Event) → Others h es → IsAllowed u run h kind va end → IsAllowed u (es ++ run) h kind va end
@@ -95,9 +92,9 @@ start_is : (hs : List Hart) (o : Option Starting) (h : ℕ) → h < length hs �
 start_is hs None h lt = refl
 start_is hs (Some g) h lt = go (g.target == h) refl
   where
-  go : (b : Bool) → (g.target == h) ≡ b → nth (slice_set hs g.target (awaited g (nth hs g.target))) h ≡ (if b then awaited g (nth hs h) else nth hs h)
-  go true e = subst (λ x. nth (slice_set hs x (awaited g (nth hs x))) h ≡ awaited g (nth hs h)) (sym (eqb-true g.target h e)) (get_or-set_same hs h (awaited g (nth hs h)) (new_hart Halted 0) lt)
-  go false e = set_other hs g.target h (awaited g (nth hs g.target)) e
+    go : (b : Bool) → (g.target == h) ≡ b → nth (slice_set hs g.target (awaited g (nth hs g.target))) h ≡ (if b then awaited g (nth hs h) else nth hs h)
+    go true e = subst (λ x. nth (slice_set hs x (awaited g (nth hs x))) h ≡ awaited g (nth hs h)) (sym (eqb-true g.target h e)) (get_or-set_same hs h (awaited g (nth hs h)) (new_hart Halted 0) lt)
+    go false e = set_other hs g.target h (awaited g (nth hs g.target)) e
 
 abbrev changed : Event → List Hart → List Hart
 changed e hs = if has_part e then slice_set hs (actor_of e) (part_next e (nth hs (actor_of e))) else hs
@@ -105,17 +102,17 @@ changed e hs = if has_part e then slice_set hs (actor_of e) (part_next e (nth hs
 changed_is : (e : Event) (hs : List Hart) (h : ℕ) → h < length hs → nth (changed e hs) h ≡ (if has_part e && is_of h e then part_next e (nth hs h) else nth hs h)
 changed_is e hs h lt = go (has_part e) (is_of h e) refl
   where
-  go : (b c : Bool) → is_of h e ≡ c → nth (if b then slice_set hs (actor_of e) (part_next e (nth hs (actor_of e))) else hs) h ≡ (if b && c then part_next e (nth hs h) else nth hs h)
-  go false c k = refl
-  go true true k = subst (λ x. nth (slice_set hs x (part_next e (nth hs x))) h ≡ part_next e (nth hs h)) (sym (eqb-true (actor_of e) h k)) (get_or-set_same hs h (part_next e (nth hs h)) (new_hart Halted 0) lt)
-  go true false k = set_other hs (actor_of e) h (part_next e (nth hs (actor_of e))) k
+    go : (b c : Bool) → is_of h e ≡ c → nth (if b then slice_set hs (actor_of e) (part_next e (nth hs (actor_of e))) else hs) h ≡ (if b && c then part_next e (nth hs h) else nth hs h)
+    go false c k = refl
+    go true true k = subst (λ x. nth (slice_set hs x (part_next e (nth hs x))) h ≡ part_next e (nth hs h)) (sym (eqb-true (actor_of e) h k)) (get_or-set_same hs h (part_next e (nth hs h)) (new_hart Halted 0) lt)
+    go true false k = set_other hs (actor_of e) h (part_next e (nth hs (actor_of e))) k
 
 changed_length : (e : Event) (hs : List Hart) → length (changed e hs) ≡ length hs
 changed_length e hs = go (has_part e)
   where
-  go : (b : Bool) → length (if b then slice_set hs (actor_of e) (part_next e (nth hs (actor_of e))) else hs) ≡ length hs
-  go true = length-set hs (actor_of e) _
-  go false = refl
+    go : (b : Bool) → length (if b then slice_set hs (actor_of e) (part_next e (nth hs (actor_of e))) else hs) ≡ length hs
+    go true = length-set hs (actor_of e) _
+    go false = refl
 
 start_length : (hs : List Hart) (o : Option Starting) → length (with_start hs o) ≡ length hs
 start_length hs None = refl

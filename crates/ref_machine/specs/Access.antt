@@ -1,5 +1,5 @@
 -- Where the bytes of an access lie.
-use Rattle.std.specs.Prelude.{ℕ, ◌+◌, ◌*◌, ◌/◌, ◌%◌, ◌^◌, Bool, true, false, ◌==◌, nat_lt, if◌then◌else◌}
+use Rattle.std.specs.Prelude.{ℕ, ◌+◌, ◌/◌, ◌%◌, ◌^◌, Bool, true, false, nat_lt, if◌then◌else◌}
 use Rattle.rv64_priv.specs.declared.state.Kind.{Kind}
 use Rattle.rv64_priv.specs.Walk.{Walked, Leaf, PageFault, AccessFault, is_device}
 use Rattle.rv64_priv.specs.Trap.{page_fault, access_fault}

@@ -1,5 +1,5 @@
 -- The forms that are built so far: a form that isn't ends the machine in place of its event.
-use Rattle.std.specs.Prelude.{ℕ, Bool, true, false, not, ◌&&◌, List, [], ◌∷◌, Option, Some, None}
+use Rattle.std.specs.Prelude.{ℕ, Bool, true, false, not, ◌&&◌, [], ◌∷◌, Option, Some, None}
 use Rattle.rv64_decode.specs.declared.instruction.Instr.{Instr}
 use Rattle.rv64_exec.specs.Code.{Code}
 use Rattle.rv64_exec.specs.Built as instruction

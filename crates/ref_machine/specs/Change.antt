@@ -1,16 +1,15 @@
 -- What each event changes: its hart, by what the event carries, and the rest by what it did.
-use Rattle.std.specs.Prelude.{ℕ, ◌+◌, ◌/◌, ◌%◌, ◌^◌, Bool, true, false, if◌then◌else◌, List, [], ◌∷◌, ◌++◌, drop, Option, Some, None, option_to_list, slice_set}
+use Rattle.std.specs.Prelude.{ℕ, ◌+◌, Bool, true, false, if◌then◌else◌, List, [], ◌∷◌, ◌++◌, drop, Option, Some, None, option_to_list, slice_set}
 use Rattle.rv64_priv.specs.declared.state.Arch.{Arch}
 use Rattle.rv64_priv.specs.declared.state.Kind.{Kind}
 use Rattle.rv64_priv.specs.Trap.{trapped, software_interrupt}
-use Rattle.rv64_priv.specs.Walk.{Walked, Leaf}
 use Rattle.rv64_exec.specs.Code.{Code}
 use Rattle.rv64_exec.specs.declared.needs.Answer.{Answer}
 use Rattle.rv64_exec.specs.Finish.{effect_of, set_reg}
 use Rattle.ref_machine.specs.declared.reason.Reason.{Reason}
-use Rattle.ref_machine.specs.Event.{Event, Outcome, Starting, Fetch, Exec, GiveUp, Interrupt, Flushes, Start, Stop, Await, SnapBegin, SnapEnd, Dump, actor_of, did_of, entry_of}
-use Rattle.ref_machine.specs.State.{State, Hart, Mode, Started, Halted, Pending, nth, reset}
-use Rattle.ref_machine.specs.Access.{Spot, AtRam, AtDevice, Faults, spot_of}
+use Rattle.ref_machine.specs.Event.{Event, Outcome, Starting, Fetch, Exec, GiveUp, Interrupt, Start, Await, SnapEnd, Dump, actor_of, did_of, entry_of}
+use Rattle.ref_machine.specs.State.{State, Hart, Started, Halted, Pending, nth, reset}
+use Rattle.ref_machine.specs.Access.{Spot, Faults, spot_of}
 
 -- one more instruction is counted
 abbrev pub counted : Hart → Hart
@@ -84,9 +83,9 @@ ends_line _ = false
 -- the state after an event
 abbrev pub state_after : Event → State → State
 state_after e s = record {
-    entries = option_to_list (entry_of e) ++ s.entries;
-    harts = harts_next e s.harts;
-    output = printed s.output (did_of e).bytes;
-    reason = first_reason s.reason (did_of e).reason;
-    script = if ends_line e then drop 1 s.script else s.script
-  }
+  entries = option_to_list (entry_of e) ++ s.entries;
+  harts = harts_next e s.harts;
+  output = printed s.output (did_of e).bytes;
+  reason = first_reason s.reason (did_of e).reason;
+  script = if ends_line e then drop 1 s.script else s.script;
+}

@@ -1,5 +1,5 @@
 -- The events of the reference machine. An event carries what came of it: the ends of its walks, the word fetched, and what an instruction did.
-use Rattle.std.specs.Prelude.{ℕ, Bool, true, false, List, [], Option, Some, None}
+use Rattle.std.specs.Prelude.{ℕ, Bool, false, List, [], Option, Some, None}
 use Rattle.rv64_priv.specs.Flush.{Flush}
 use Rattle.rv64_priv.specs.Walk.{Walked}
 use Rattle.rv64_exec.specs.Code.{Code}

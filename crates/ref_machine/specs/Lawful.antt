@@ -1,24 +1,18 @@
 -- Where each event is lawful, and the runs of the reference machine.
-use Rattle.std.specs.Prelude.{◌≡◌, ℕ, ◌+◌, ◌%◌, ◌<◌, ◌≤◌, Bool, true, false, ◌&&◌, IsTrue, IsSome, List, [], ◌∷◌, length, Option, Some, None}
+use Rattle.std.specs.Prelude.{◌≡◌, ℕ, ◌<◌, ◌≤◌, true, false, IsTrue, IsSome, List, [], ◌∷◌, length, Option, Some, None}
 use Rattle.std.specs.List.{AllByRecursion}
-use Rattle.rv64_decode.specs.Encoding.{Decodes}
-use Rattle.rv64_priv.specs.declared.state.Arch.{Arch}
 use Rattle.rv64_priv.specs.declared.state.Kind.{Kind}
-use Rattle.rv64_priv.specs.Trap.{takes_interrupts}
-use Rattle.rv64_priv.specs.Bits.{is_set}
-use Rattle.rv64_priv.specs.Walk.{Walked, Leaf}
+use Rattle.rv64_priv.specs.Walk.{Walked}
 use Rattle.rv64_priv.specs.Flush.{Flush, Full, Pages}
-use Rattle.rv64_exec.specs.Code.{Code, no_code}
+use Rattle.rv64_exec.specs.Code.{Code}
 use Rattle.rv64_exec.specs.declared.needs.Need.{Need}
 use Rattle.rv64_exec.specs.declared.needs.FlushOf.{FlushOf}
-use Rattle.step_laws.specs.Words.{ipi_word}
 use Rattle.ref_machine.specs.declared.reason.Reason.{Reason}
-use Rattle.ref_machine.specs.Memory.{Memory}
 use Rattle.ref_machine.specs.Past.{Since, HasSince}
 use Rattle.ref_machine.specs.Event.{Event, Outcome, Fetch, Exec, GiveUp, Interrupt, Flushes, Start, Stop, Await, SnapBegin, SnapEnd, Dump, monitor}
-use Rattle.ref_machine.specs.State.{Setup, State, Hart, Mode, Started, Pending, Command, AwaitBytes, Snapshot, DumpBytes, StopAll, hart, memory, all_halted}
+use Rattle.ref_machine.specs.State.{Setup, State, Started, Pending, Command, AwaitBytes, Snapshot, DumpBytes, StopAll, hart, memory, all_halted}
 use Rattle.ref_machine.specs.Run.{state_of, memory_at, is_of, fetches, starts, flushes, renews, last_of, passes, leaves, is_snap_begin, is_due}
-use Rattle.ref_machine.specs.Access.{crosses_page, second_va, spot_of, is_at_ram, code_word}
+use Rattle.ref_machine.specs.Access.{crosses_page, second_va, spot_of, is_at_ram}
 use Rattle.ref_machine.specs.Sbi.{Call, Fences, sbi_of, bytes_from}
 use Rattle.ref_machine.specs.Walks.{Wanted, walked, need, access_of}
 use Rattle.ref_machine.specs.Perform.{perform}
@@ -40,7 +34,7 @@ pub record IsAllowed (u : Setup) (run : List Event) (h : ℕ) (kind : Kind) (va 
 pub record WalksAllowed (u : Setup) (run : List Event) (h : ℕ) (walk second : Walked) (w : Wanted) : Type 0 where
   pub first_page : IsAllowed u run h w.kind w.va walk
   pub second_page : IsTrue (crosses_page w.va w.width) → IsTrue (is_at_ram (spot_of w.kind w.va walk))
-    → IsAllowed u run h w.kind (second_va w.va) second
+      → IsAllowed u run h w.kind (second_va w.va) second
 
 abbrev pub AllowedFor : Setup → List Event → (h : ℕ) → (walk second : Walked) → Option Wanted → Type 0
 AllowedFor u run h walk second None = Unit {0}

@@ -1,12 +1,12 @@
 -- Laws of runs.
-use Rattle.std.specs.Prelude.{◌≡◌, ℕ, ◌≤◌, ◌<◌, IsTrue, not, List, ◌∷◌, ◌++◌, length, Option, Some}
+use Rattle.std.specs.Prelude.{◌≡◌, ℕ, ◌≤◌, ◌<◌, IsTrue, not, List, ◌++◌, length, Some}
 use Rattle.std.specs.List.{list_all}
 use Rattle.rv64_priv.specs.declared.state.Kind.{Kind}
 use Rattle.rv64_priv.specs.Walk.{Walked}
 use Rattle.ref_machine.specs.declared.reason.Reason.{Reason}
 use Rattle.ref_machine.specs.Memory.{written}
 use Rattle.ref_machine.specs.Event.{Event}
-use Rattle.ref_machine.specs.State.{Setup, State, initial, hart, memory}
+use Rattle.ref_machine.specs.State.{Setup, initial, hart, memory}
 use Rattle.ref_machine.specs.Run.{state_of, stored, is_of, part_of}
 use Rattle.ref_machine.specs.Lawful.{IsRun, IsAllowed}
 use Rattle.ref_machine.specs.Plain.{IsPlainRun}

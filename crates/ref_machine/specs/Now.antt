@@ -1,5 +1,5 @@
 -- What a hart finds and does where every moment is now.
-use Rattle.std.specs.Prelude.{◌≡◌, ℕ, ◌+◌, ◌%◌, Bool, ◌&&◌, List}
+use Rattle.std.specs.Prelude.{◌≡◌, ℕ, ◌+◌, ◌%◌, Bool, ◌&&◌}
 use Rattle.rv64_decode.specs.Encoding.{Decodes}
 use Rattle.rv64_priv.specs.declared.state.Kind.{Kind}
 use Rattle.rv64_priv.specs.Trap.{takes_interrupts}
@@ -9,7 +9,7 @@ use Rattle.rv64_exec.specs.Code.{Code, no_code}
 use Rattle.step_laws.specs.Words.{ipi_word}
 use Rattle.ref_machine.specs.Memory.{Memory}
 use Rattle.ref_machine.specs.Event.{Event, Outcome, Fetch, Exec}
-use Rattle.ref_machine.specs.State.{Setup, State, Hart, hart, memory}
+use Rattle.ref_machine.specs.State.{Setup, State, hart, memory}
 use Rattle.ref_machine.specs.Access.{code_word}
 use Rattle.ref_machine.specs.Walks.{walked_now, need, access_of, first_now, second_now}
 use Rattle.ref_machine.specs.Perform.{perform}

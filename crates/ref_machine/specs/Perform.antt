@@ -1,5 +1,5 @@
 -- What the reference machine does for an instruction's need.
-use Rattle.std.specs.Prelude.{ℕ, zero, suc, ◌+◌, ◌-◌, ◌*◌, ◌/◌, ◌%◌, ◌^◌, Bool, true, false, not, ◌&&◌, ◌||◌, ◌==◌, nat_lt, nat_le, min, max, if◌then◌else◌, ℤ, pos, int_lt, List, [], ◌∷◌, ◌++◌, length, take, Option, Some, None, bit_and, bit_or, bit_xor}
+use Rattle.std.specs.Prelude.{ℕ, ◌+◌, ◌-◌, ◌*◌, ◌%◌, ◌^◌, Bool, true, false, not, ◌&&◌, ◌==◌, nat_le, min, max, if◌then◌else◌, ℤ, pos, int_lt, List, [], ◌∷◌, length, take, Option, Some, None, bit_and, bit_or, bit_xor}
 use Rattle.std.specs.Int.{w64, cast_unsigned}
 use Rattle.rv64_priv.specs.declared.state.Arch.{Arch}
 use Rattle.rv64_priv.specs.declared.state.Hold.{Hold}
@@ -14,9 +14,9 @@ use Rattle.rv64_exec.specs.declared.needs.Need.{Need}
 use Rattle.rv64_exec.specs.declared.needs.Answer.{Answer}
 use Rattle.step_laws.specs.Words.{ipi_word, first_ram_word}
 use Rattle.ref_machine.specs.declared.reason.Reason.{Reason}
-use Rattle.ref_machine.specs.Event.{Outcome, Starting, only}
-use Rattle.ref_machine.specs.Memory.{Memory, Entry, Write, Span, read, store_entry, first_word, first_offset}
-use Rattle.ref_machine.specs.State.{Setup, State, Hart, hart, memory}
+use Rattle.ref_machine.specs.Event.{Outcome, only}
+use Rattle.ref_machine.specs.Memory.{Memory, Entry, Span, read, store_entry, first_word, first_offset}
+use Rattle.ref_machine.specs.State.{Setup, State, hart, memory}
 use Rattle.ref_machine.specs.Access.{Reach, InRam, OnDevice, Fault, reach}
 use Rattle.ref_machine.specs.Device.{DeviceStore, Ends, Ignored, device_value, device_stored}
 use Rattle.ref_machine.specs.Sbi.{Call, Gives, GivesOne, PrintsOne, Sends, Fences, Begins, Leaves, EndsAll, sbi_of}

@@ -1,14 +1,11 @@
 -- The one run of an order in which every moment is now.
-use Rattle.std.specs.Prelude.{◌≡◌, IsSome, ℕ, ◌%◌, ◌+◌, Bool, true, false, ◌&&◌, ◌==◌, if◌then◌else◌, List, [], ◌∷◌, ◌++◌, map, Option, Some, None, is_some}
-use Rattle.rv64_priv.specs.declared.state.Kind.{Kind}
-use Rattle.rv64_priv.specs.Flush.{Flush, Full}
-use Rattle.rv64_priv.specs.Walk.{Walked}
+use Rattle.std.specs.Prelude.{◌≡◌, IsSome, ℕ, ◌&&◌, ◌==◌, if◌then◌else◌, List, [], ◌∷◌, ◌++◌, map, Option, Some, None, is_some}
+use Rattle.rv64_priv.specs.Flush.{Full}
 use Rattle.rv64_exec.specs.Code.{Code}
 use Rattle.ref_machine.specs.declared.reason.Reason.{Reason}
-use Rattle.ref_machine.specs.Event.{Event, Fetch, Exec, Interrupt, Flushes, Start, Stop}
-use Rattle.ref_machine.specs.State.{Setup, State, Hart, Mode, Started, Halted, Pending, hart, memory, all_halted}
-use Rattle.ref_machine.specs.Walks.{walked_now, need, access_of, first_now, second_now}
-use Rattle.ref_machine.specs.Perform.{perform}
+use Rattle.ref_machine.specs.Event.{Event, Interrupt, Flushes, Start, Stop}
+use Rattle.ref_machine.specs.State.{Setup, State, Mode, Started, Halted, Pending, hart, memory, all_halted}
+use Rattle.ref_machine.specs.Walks.{need}
 use Rattle.ref_machine.specs.Change.{state_after}
 use Rattle.ref_machine.specs.Run.{state_of, counts, leaves, is_leaf_end}
 use Rattle.ref_machine.specs.Now.{IsNext, is_pending, fetch_end, fetch_now, exec_now}
@@ -69,5 +66,5 @@ after_turn u h code s = states_after (plain_turn u s h code) s
 pub data IsPlainRun (u : Setup) : List ℕ → List Event → Type 0 where
   none : IsPlainRun u [] []
   turn : {order : List ℕ} {run : List Event} → (h : ℕ) (code : Code) → (state_of u run).reason ≡ None → IsNext u (state_of u run) h code
-    → IsPlainRun u order run → IsPlainRun u (h ∷ order) (plain_turn u (state_of u run) h code ++ run)
+      → IsPlainRun u order run → IsPlainRun u (h ∷ order) (plain_turn u (state_of u run) h code ++ run)
   over : {order : List ℕ} {run : List Event} → (h : ℕ) → IsSome (state_of u run).reason → IsPlainRun u order run → IsPlainRun u (h ∷ order) run

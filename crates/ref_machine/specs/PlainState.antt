@@ -1,5 +1,5 @@
 -- What the machine on one thread keeps, and what one turn of hart 0 makes of it.
-use Rattle.std.specs.Prelude.{◌≡◌, ℕ, zero, suc, ◌+◌, ◌-◌, ◌*◌, ◌/◌, ◌%◌, ◌^◌, ◌≤◌, ◌<◌, Bool, true, false, ◌&&◌, ◌==◌, nat_lt, nat_le, if◌then◌else◌, List, [], ◌∷◌, ◌++◌, length, Option, Some, None, IsNone, slice_index, slice_set, vec_len, vec_capacity}
+use Rattle.std.specs.Prelude.{◌≡◌, ℕ, zero, suc, ◌+◌, ◌-◌, ◌*◌, ◌/◌, ◌%◌, ◌^◌, ◌≤◌, ◌<◌, Bool, ◌&&◌, ◌==◌, nat_lt, nat_le, if◌then◌else◌, List, [], ◌∷◌, ◌++◌, length, Option, Some, None, IsNone, slice_index, slice_set, vec_len, vec_capacity}
 use Rattle.rv64_decode.specs.declared.instruction.Instr.{Instr}
 use Rattle.rv64_decode.specs.Encoding.{Decodes}
 use Rattle.rv64_priv.specs.declared.state.Arch.{Arch}
@@ -71,10 +71,10 @@ has_room console = nat_lt (length console) 1048576
 -- a byte goes behind the console, or ends the machine where there is no room
 abbrev pub printed : PlainState → (byte : ℕ) → Effect
 printed p byte = record {
-    ram = p.ram;
-    console = if has_room p.console then p.console ++ byte ∷ [] else p.console;
-    reason = if has_room p.console then None else Some Reason.OutFull
-  }
+  ram = p.ram;
+  console = if has_room p.console then p.console ++ byte ∷ [] else p.console;
+  reason = if has_room p.console then None else Some Reason.OutFull;
+}
 
 abbrev pub ended_by : PlainState → DeviceStore → Option Effect
 ended_by p (Ends (Reason.Fail code)) = None

@@ -1,5 +1,5 @@
 -- Turns of hart 0 in a row: a plain run goes on by them.
-use Rattle.std.specs.Prelude.{◌≡◌, ℕ, List, ◌++◌, replicate}
+use Rattle.std.specs.Prelude.{ℕ, List, ◌++◌, replicate}
 use Rattle.ref_machine.specs.Event.{Event}
 use Rattle.ref_machine.specs.State.{Setup}
 use Rattle.ref_machine.specs.Run.{state_of}

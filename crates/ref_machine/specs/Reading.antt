@@ -1,5 +1,5 @@
 -- Walks by the words that their reads found.
-use Rattle.std.specs.Prelude.{◌≡◌, ℕ, zero, suc, ◌*◌, ◌%◌, ◌^◌, Bool, false, IsTrue, List}
+use Rattle.std.specs.Prelude.{◌≡◌, ℕ, zero, suc, ◌*◌, ◌%◌, ◌^◌, false, IsTrue, List}
 use Rattle.rv64_priv.specs.declared.state.Kind.{Kind}
 use Rattle.rv64_priv.specs.Csr.{regime}
 use Rattle.rv64_priv.specs.Pte.{is_malformed, is_leaf, ppn}
@@ -20,7 +20,7 @@ abbrev pub Finds : ℕ → (va : ℕ) → Levels → (a : ℕ → ℕ) → (leve
 Finds pages va l a zero table = Unit {0}
 Finds pages va l a (suc level) table = IsTrue (is_ram pages (entry_place table va level))
     → (l level (entry_place table va level) ≡ a level)
-      × (is_malformed (a level) ≡ false → is_leaf (a level) ≡ false → Finds pages va l a level (ppn (a level) * 4096))
+    × (is_malformed (a level) ≡ false → is_leaf (a level) ≡ false → Finds pages va l a level (ppn (a level) * 4096))
 
 -- the end of a walk by the words that were found at moments in order, none before a renewal, is allowed
 abbrev pub FoundIsAllowed : Type 0

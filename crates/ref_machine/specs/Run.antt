@@ -4,7 +4,7 @@ use Rattle.rv64_priv.specs.Flush.{Flush, Full, Pages, covers}
 use Rattle.rv64_priv.specs.Walk.{Walked, Leaf}
 use Rattle.ref_machine.specs.declared.reason.Reason.{Reason}
 use Rattle.ref_machine.specs.Memory.{Memory, Entry}
-use Rattle.ref_machine.specs.Event.{Event, Outcome, Starting, Fetch, Exec, Flushes, Stop, SnapBegin, actor_of, did_of, entry_of}
+use Rattle.ref_machine.specs.Event.{Event, Starting, Fetch, Exec, Flushes, Stop, SnapBegin, actor_of, did_of, entry_of}
 use Rattle.ref_machine.specs.State.{Setup, State, Hart, hart, memory, initial}
 use Rattle.ref_machine.specs.Change.{state_after, part_next, has_part, awaited}
 

@@ -1,7 +1,6 @@
 -- SBI calls, as a function of the registers and the states that they name.
-use Rattle.std.specs.Prelude.{ℕ, zero, suc, ◌+◌, ◌-◌, ◌*◌, ◌/◌, ◌%◌, ◌^◌, Bool, true, false, not, ◌&&◌, ◌||◌, ◌==◌, nat_lt, nat_le, min, if◌then◌else◌, ℤ, pos, negsuc, List, [], ◌∷◌, ◌++◌, map, filter, length, Option, Some, None, bit_or}
+use Rattle.std.specs.Prelude.{ℕ, zero, suc, ◌+◌, ◌-◌, ◌*◌, ◌/◌, ◌%◌, ◌^◌, Bool, not, ◌&&◌, ◌||◌, ◌==◌, nat_lt, nat_le, min, if◌then◌else◌, ℤ, pos, negsuc, List, [], ◌∷◌, ◌++◌, map, filter, Option, Some, None, bit_or}
 use Rattle.std.specs.List.{list_all, list_any}
-use Rattle.std.specs.Int.{w64, cast_unsigned}
 use Rattle.rv64_priv.specs.declared.state.Arch.{Arch}
 use Rattle.rv64_priv.specs.Flush.{Flush, Full, Pages}
 use Rattle.rv64_priv.specs.Walk.{is_ram, ram_base}
@@ -141,8 +140,8 @@ hsm_call u s a fid =
 abbrev pub reset_call : (type reason : ℕ) → Call
 reset_call type reason =
     if type == 0 then
-      (if reason == 0 then EndsAll Reason.Pass else
-       if reason == 1 then EndsAll (Reason.Fail 1) else fails invalid_parameter) else
+    (if reason == 0 then EndsAll Reason.Pass else
+    if reason == 1 then EndsAll (Reason.Fail 1) else fails invalid_parameter) else
     if nat_le type 2 then fails not_supported else fails invalid_parameter
 
 -- console
@@ -160,8 +159,8 @@ in_ram pages pa count = (count == 0) || (nat_le ram_base pa && nat_le (pa + coun
 abbrev pub console_call : ℕ → Memory → Arch → (fid : ℕ) → Call
 console_call pages m a fid =
     if fid == 0 then
-      (if (arg a 2 == 0) && in_ram pages (arg a 1) (arg a 0)
-       then Prints (bytes_from m (arg a 1) (min (arg a 0) 256)) (min (arg a 0) 256) else fails invalid_parameter) else
+    (if (arg a 2 == 0) && in_ram pages (arg a 1) (arg a 0)
+    then Prints (bytes_from m (arg a 1) (min (arg a 0) 256)) (min (arg a 0) 256) else fails invalid_parameter) else
     if fid == 2 then Prints (arg a 0 % 256 ∷ []) 0 else fails not_supported
 
 -- a pair of numbers that has no call

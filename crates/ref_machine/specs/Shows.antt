@@ -6,8 +6,7 @@ use Rattle.step_laws.specs.declared.words.Layout.{Layout}
 use Rattle.step_laws.specs.Words.{first_ram_word}
 use Rattle.ref_machine.specs.Memory.{Memory, Entry, written}
 use Rattle.ref_machine.specs.Image.{image_memory}
-use Rattle.ref_machine.specs.State.{Setup, State, Hart, Command, Started, Halted, new_hart, initial}
-use Rattle.ref_machine.specs.Event.{Event}
+use Rattle.ref_machine.specs.State.{Setup, State, Hart, Command, Started, Halted, new_hart}
 use Rattle.ref_machine.specs.Now.{IsNext}
 use Rattle.ref_machine.specs.Plain.{after_turn}
 use Rattle.ref_machine.specs.PlainState.{PlainState}

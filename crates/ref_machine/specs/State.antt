@@ -77,9 +77,9 @@ all_halted s = list_all (λ t. is_halted t.mode) s.harts
 -- hart 0 begins at the image's start, all others stopped
 abbrev pub initial : Setup → State
 initial u = record {
-    entries = [];
-    harts = new_hart Started u.start ∷ replicate (u.layout.harts - 1) (new_hart Halted 0);
-    output = [];
-    reason = None;
-    script = u.script
-  }
+  entries = [];
+  harts = new_hart Started u.start ∷ replicate (u.layout.harts - 1) (new_hart Halted 0);
+  output = [];
+  reason = None;
+  script = u.script;
+}

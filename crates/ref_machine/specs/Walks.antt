@@ -1,5 +1,5 @@
 -- The walks that a fetch and an instruction make.
-use Rattle.std.specs.Prelude.{ℕ, ◌+◌, Bool, true, false, ◌&&◌, not, ◌==◌, if◌then◌else◌, Option, Some, None, List, [], ◌∷◌}
+use Rattle.std.specs.Prelude.{ℕ, Bool, ◌==◌, if◌then◌else◌, Option, Some, None}
 use Rattle.rv64_priv.specs.declared.state.Arch.{Arch}
 use Rattle.rv64_priv.specs.declared.state.Kind.{Kind}
 use Rattle.rv64_priv.specs.Csr.{regime}
@@ -9,8 +9,8 @@ use Rattle.rv64_exec.specs.Plan.{need_of_code}
 use Rattle.rv64_exec.specs.Code.{Code}
 use Rattle.step_laws.specs.Words.{ram_word}
 use Rattle.ref_machine.specs.Memory.{Memory}
-use Rattle.ref_machine.specs.State.{Setup, State, Hart, hart, memory}
-use Rattle.ref_machine.specs.Access.{crosses_page, second_va, spot_of, is_at_ram}
+use Rattle.ref_machine.specs.State.{Setup, State, hart, memory}
+use Rattle.ref_machine.specs.Access.{crosses_page, second_va}
 use Rattle.ref_machine.specs.Perform.{width_of, is_misaligned}
 
 -- memory as a walk finds it whose reads of level 2, 1 and 0 are made of these memories

@@ -29,6 +29,7 @@ const CONSOLE_BYTES: usize = 1_048_576;
 
 /// The UART's registers, of which the first prints a byte.
 const UART: u64 = 0x1000_0000;
+
 const UART_LAST: u64 = 0x1000_0007;
 
 /// The finisher: a store of 0x5555 here ends the machine with a pass.
@@ -82,7 +83,10 @@ fn load(alloc: Global, parts: &[Part], file: &[u8], words: usize) -> Result<Vec<
         return Err(NoMemory);
     };
     for i in 0..words {
-        if ram.push(word_at(file, parts, RAM_BASE + 8 * i as u64)).is_err() {
+        if ram
+            .push(word_at(file, parts, RAM_BASE + 8 * i as u64))
+            .is_err()
+        {
             return Err(NoMemory);
         }
     }
@@ -114,7 +118,12 @@ impl PlainMachine {
         requires limit { 0 < limit }
         ensures first { IfOk result (λ machine. Shows (setup_of layout file.now image.now limit) machine (initial (setup_of layout file.now image.now limit))) }
     {
-        let ram = load(alloc, image.parts.as_slice(), file, 512 * layout.pages as usize)?;
+        let ram = load(
+            alloc,
+            image.parts.as_slice(),
+            file,
+            512 * layout.pages as usize,
+        )?;
         let Ok(console) = Vec::with_capacity(alloc, CONSOLE_BYTES) else {
             return Err(NoMemory);
         };
@@ -202,7 +211,11 @@ impl PlainMachine {
             return None;
         }
         let word = self.ram[i as usize];
-        let half = if pc % 8 == 0 { word } else { word / 0x1_0000_0000 };
+        let half = if pc % 8 == 0 {
+            word
+        } else {
+            word / 0x1_0000_0000
+        };
         Some((half % 0x1_0000_0000) as u32)
     }
 
@@ -269,7 +282,11 @@ impl PlainMachine {
         ensures none { IsNone result → self.new ≡ self.old }
     {
         if width == 1 && UART <= va && va <= UART_LAST {
-            return Some(if va == UART { self.print((value % 0x100) as u8) } else { None });
+            return Some(if va == UART {
+                self.print((value % 0x100) as u8)
+            } else {
+                None
+            });
         }
         if width == 4 && va == FINISHER {
             return finisher(value);

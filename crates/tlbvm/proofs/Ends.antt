@@ -1,23 +1,20 @@
 -- The machine's turns are one run, and what was written of it is the cause of the answer.
-use Rattle.std.proofs.Common.{inl, inr, ◌≡◌, refl, ℕ, ◌≤◌, ◌++◌, List, [], ◌∷◌, length, Some, None, Option, Ok, ap, sym, ◌∙◌, subst, ◌<◌, arith}
+use Rattle.std.proofs.Common.{inl, inr, ◌≡◌, refl, ℕ, ◌≤◌, ◌++◌, List, [], ◌∷◌, length, Some, None, Option, ap, sym, ◌∙◌, subst, ◌<◌, arith}
 use Rattle.std.specs.Prelude.{◌⊎◌, replicate, IfSome, IsTrue}
 use Rattle.elf_load.specs.ImageOf.{is_built, image_of}
 use Rattle.ref_machine.specs.declared.reason.Reason.{Reason}
 use Rattle.ref_machine.specs.Event.{Event}
 use Rattle.ref_machine.specs.State.{Setup, State}
-use Rattle.ref_machine.specs.Run.{state_of}
 use Rattle.ref_machine.specs.Plain.{IsPlainRun, none}
 use Rattle.ref_machine.specs.PlainState.{PlainState}
-use Rattle.ref_machine.specs.Shows.{Shows}
 use Rattle.ref_machine.specs.Ran.{GoesOn, Ran}
 use Rattle.ref_machine.proofs.Grows.{plain_runs}
 use Rattle.tlbvm.specs.declared.start.Refusal.{Refusal}
 use Rattle.tlbvm.specs.declared.status.Status.{Status}
-use Rattle.tlbvm.specs.Line.{Operands}
 use Rattle.tlbvm.specs.Order.{order_of}
 use Rattle.tlbvm.specs.Report.{report_of}
 use Rattle.tlbvm.specs.Status.{status_for}
-use Rattle.tlbvm.specs.Call.{Files, Name, WereRead, IsTooLong, IsAccepted, IsStarted, OneRun, CauseOf, Call, Gets, GetsNothing, GetsPart, HasEnded, IsCutShort, IsRefused, plain_setup}
+use Rattle.tlbvm.specs.Call.{Files, Name, WereRead, IsTooLong, IsStarted, OneRun, CauseOf, Call, Gets, GetsNothing, GetsPart, HasEnded, IsCutShort, plain_setup}
 use Rattle.tlbvm.specs.Answers.{CauseOfStatus, IsComplete, IsFaultless, IsReady}
 
 append_nil : {A : Type 0} (xs : List A) → xs ++ [] ≡ xs

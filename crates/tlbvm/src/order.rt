@@ -14,7 +14,11 @@ fn without_feed(text: &[u8]) -> &[u8]
     ensures { result.now ≡ without_feed text.now }
 {
     let len = text.len();
-    if len > 0 && text[len - 1] == b'\n' { &text[..len - 1] } else { text }
+    if len > 0 && text[len - 1] == b'\n' {
+        &text[..len - 1]
+    } else {
+        text
+    }
 }
 
 fn are_digits(text: &[u8]) -> bool
@@ -56,5 +60,9 @@ pub(crate) fn read_order(text: &[u8]) -> Option<u64>
         return None;
     }
     let turns = capped_value(digits);
-    if turns == 0 || turns > MOST_TURNS { None } else { Some(turns) }
+    if turns == 0 || turns > MOST_TURNS {
+        None
+    } else {
+        Some(turns)
+    }
 }

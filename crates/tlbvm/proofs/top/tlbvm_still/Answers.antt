@@ -1,5 +1,5 @@
 -- The line's call is complete.
-use Rattle.std.proofs.Common.{◌≡◌, sym, subst}
+use Rattle.std.proofs.Common.{sym, subst}
 use Rattle.std.specs.Prelude.{IfSome}
 use Rattle.tlbvm.specs.Answers.{IsComplete}
 use Rattle.tlbvm.specs.Call.{call_of}
@@ -11,6 +11,6 @@ pub returns-in-Some-clause-complete : goal.returns-in-Some-clause-complete
 returns-in-Some-clause-complete g c =
     let line : Operands = record { elf = c.in-Some.line.elf.now; order = c.in-Some.line.order.now } in
     subst (λ o. IfSome o (λ l. IsComplete c.plain.result (call_of g.F.Images.told g.F.Images.faults g.O.Sink.taken g.O.Sink.faults g.L.Sink.taken g.L.Sink.faults
-        c.args.images.now c.plain.new.images c.args.out.now c.plain.new.out c.args.log.now c.plain.new.log l))) (sym c.in-Some.ensures)
+    c.args.images.now c.plain.new.images c.args.out.now c.plain.new.out c.args.log.now c.plain.new.log l))) (sym c.in-Some.ensures)
     (complete (call_of g.F.Images.told g.F.Images.faults g.O.Sink.taken g.O.Sink.faults g.L.Sink.taken g.L.Sink.faults
-        c.args.images.now c.plain.new.images c.args.out.now c.plain.new.out c.args.log.now c.plain.new.log line) c.plain.result c.plain.ensures)
+    c.args.images.now c.plain.new.images c.args.out.now c.plain.new.out c.args.log.now c.plain.new.log line) c.plain.result c.plain.ensures)

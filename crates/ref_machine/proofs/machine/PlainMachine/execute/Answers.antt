@@ -1,5 +1,5 @@
 -- What built instructions need is built.
-use Rattle.std.proofs.Common.{◌≡◌, sym, ◌∙◌, subst}
+use Rattle.std.proofs.Common.{sym, ◌∙◌, subst}
 use Rattle.rv64_exec.specs.Built.{IsBuiltNeed}
 use Rattle.rv64_exec.proofs.Kept.{built_need}
 use Rattle.ref_machine.proofs.machine.PlainMachine.execute.Goals as goal

@@ -1,5 +1,5 @@
 -- The loaded machine is kept and shows the first state.
-use Rattle.std.proofs.Common.{◌≡◌, ℕ, ◌*◌, ◌%◌, sym, subst, List, [], None, arith}
+use Rattle.std.proofs.Common.{◌≡◌, ℕ, ◌*◌, ◌%◌, sym, subst, List, None, arith}
 use Rattle.elf_load.specs.Loaded.{Loaded, loaded_by}
 use Rattle.elf_load.proofs.Starts.{start_aligned}
 use Rattle.ref_machine.specs.State.{initial, reset}
@@ -24,9 +24,9 @@ returns c =
     let image : Loaded = loaded_by c.image.inside in
     let machine : List ℕ → PlainState = λ console. record { harts = c.args.layout.harts; ram = ram; arch = reset c.image.inside.start; count = 0; limit = c.args.limit; console = console; reason = None } in
     let loaded : IsLoaded c.args.file.now image.parts (512 * c.args.layout.pages) ram
-        = subst (λ ps. IsLoaded c.args.file.now ps (512 * c.args.layout.pages) ram) c.as_slice.ensures.value c.in_ok-ram.ensures in
+    = subst (λ ps. IsLoaded c.args.file.now ps (512 * c.args.layout.pages) ram) c.as_slice.ensures.value c.in_ok-ram.ensures in
     let aligned : image.start % 4 ≡ 0
-        = subst (λ (l : Loaded). l.start % 4 ≡ 0) (sym c.image.view_is) (start_aligned c.args.file.now c.args.layout.pages c.args.image.now c.requires.image) in
+    = subst (λ (l : Loaded). l.start % 4 ≡ 0) (sym c.image.view_is) (start_aligned c.args.file.now c.args.layout.pages c.args.image.now c.requires.image) in
     record {
       first = subst (λ l. Shows (setup_of c.args.layout c.args.file.now l c.args.limit) (machine c.in-Ok.console.items) (initial (setup_of c.args.layout c.args.file.now l c.args.limit))) c.image.view_is
           (subst (λ xs. Shows (setup_of c.args.layout c.args.file.now image c.args.limit) (machine xs) (initial (setup_of c.args.layout c.args.file.now image c.args.limit))) (sym c.in-Ok.ensures.items)

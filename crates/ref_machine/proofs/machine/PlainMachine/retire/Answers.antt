@@ -1,5 +1,5 @@
 -- pc stays a multiple of 4, and a machine without a reason below its limit.
-use Rattle.std.proofs.Common.{◌≡◌, ◌%◌, sym, subst, arith, rules, ◌<◌, ◌+◌, IsNone}
+use Rattle.std.proofs.Common.{◌≡◌, ◌%◌, sym, subst, arith, ◌<◌, IsNone}
 use Rattle.std.proofs.lemmas.Grind.{common_steps}
 use Rattle.rv64_priv.specs.declared.state.Arch.{Arch}
 use Rattle.ref_machine.specs.PlainState.{PlainState}

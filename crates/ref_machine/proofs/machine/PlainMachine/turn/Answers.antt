@@ -1,6 +1,6 @@
 -- A turn of hart 0 is taken where there is no reason yet; every other turn changes nothing, as in the plain run.
-use Rattle.std.proofs.Common.{◌≡◌, ◌<◌, sym, ◌∙◌, ap, subst, refl, None, Some, Option, arith}
-use Rattle.std.specs.Prelude.{IsSome, is_some}
+use Rattle.std.proofs.Common.{◌<◌, sym, ◌∙◌, ap, subst, arith}
+use Rattle.std.specs.Prelude.{is_some}
 use Rattle.ref_machine.specs.PlainState.{PlainState}
 use Rattle.ref_machine.specs.Shows.{Turned}
 use Rattle.ref_machine.proofs.Turns.{turned_first, turned_over, turned_other, turn_harts}
