@@ -293,11 +293,20 @@ turned_in p q none here t = record {
         (subst (λ w. IsCode (written u.image k.entries) p.arch.pc w (record { word = next_word p; instr = t.found })) (sym (fetch_by u p k.entries k.script true k.bare k.size here))
         (next_at u p k.entries k.ram here, t.decodes)),
   );
+  only = λ u s k _ code other next next'.
+      let v = next_in u p s k code here next in
+      let w = next_in u p s k other here next' in
+      sym (code_one p t.found code t.only v.0 v.1) ∙ code_one p t.found other t.only w.0 w.1;
   next = λ u s k code next.
       let w = next_in u p s k code here next in
       subst (λ x. Shows u x (after_turn u 0 code s)) (sym t.is_next)
       (subst (λ c. Shows u (after_word p t.found) (after_turn u 0 c s)) (code_one p t.found code t.only w.0 w.1) (found_turn u p s k t.found none here));
 }
+
+no_word : (u : Setup) (p : PlainState) (s : State) (k : Shows u p s) (code : Code) → is_in p.ram p.arch.pc ≡ false → IsNext u s 0 code → code ≡ no_code
+no_word u p s k code out next =
+    subst (λ w. IsCode (written u.image k.entries) p.arch.pc w code) (fetch_by u p k.entries k.script false k.bare k.size out)
+    (let here : IsNext u (shown p None k.entries k.script) 0 code = subst (λ x. IsNext u x 0 code) k.state next in here)
 
 turned_out : (p q : PlainState) → p.reason ≡ None → is_in p.ram p.arch.pc ≡ false → q ≡ unbuilt p → Turned 0 p q
 unfolding is_built
@@ -307,6 +316,7 @@ turned_out p q none out is_next = record {
     subst (λ x. IsNext u x 0 no_code) (sym k.state)
         (subst (λ w. IsCode (written u.image k.entries) p.arch.pc w no_code) (sym (fetch_by u p k.entries k.script false k.bare k.size out)) refl),
   );
+  only = λ u s k _ code other next next'. no_word u p s k code out next ∙ sym (no_word u p s k other out next');
   next = λ u s k code next.
       subst (λ x. Shows u x (after_turn u 0 code s)) (sym is_next)
       (no_turn u p s k code none
@@ -332,6 +342,7 @@ same_state u h code s None e some = cc
 pub turned_over : (h : ℕ) (p : PlainState) → IsSome p.reason → Turned h p p
 turned_over h p ended = record {
   code = λ u s k none. absurd (no_some p.reason none ended);
+  only = λ u s k none _ _ _ _. absurd (no_some p.reason none ended);
   next = λ u s k code next. subst (λ x. Shows u p x) (sym (same_state u h code s p.reason (ap (λ (x : State). x.reason) k.state) ended)) k;
 }
   where
@@ -356,6 +367,13 @@ halted_same u h code s e = go s.reason
     go (Some r) = refl
     go None = ap (λ m. states_after (turn_in u s h code m) s) e
 
+halted_word : (u : Setup) (h : ℕ) (p : PlainState) (s : State) (k : Shows u p s) (code : Code) → IsNext u s (suc h) code → code ≡ no_code
+halted_word u h p s k code next =
+    let here : IsNext u (shown p None k.entries k.script) (suc h) code = subst (λ x. IsNext u x (suc h) code) k.state next in
+    let reset : IsCode (written u.image k.entries) 0 (walked_by u k.entries (new_hart Halted 0)) code
+    = subst (λ (t : Hart). IsCode (written u.image k.entries) t.arch.pc (walked_by u k.entries t) code) (halted (p.harts - 1) h) here in
+    subst (λ w. IsCode (written u.image k.entries) 0 w code) (bare_walk u.layout.pages (regime (new_hart Halted 0).arch) Kind.Fetch _ 0 refl) reset
+
 pub turned_other : (h : ℕ) (p : PlainState) → 0 < h → Turned h p p
 turned_other zero p positive = absurd (omega arith)
 turned_other (suc h) p positive = record {
@@ -365,6 +383,7 @@ turned_other (suc h) p positive = record {
         (subst (λ (t : Hart). IsCode (written u.image k.entries) t.arch.pc (walked_by u k.entries t) no_code) (sym (halted (p.harts - 1) h))
         (subst (λ w. IsCode (written u.image k.entries) 0 w no_code) (sym (bare_walk u.layout.pages (regime (new_hart Halted 0).arch) Kind.Fetch _ 0 refl)) refl)),
   );
+  only = λ u s k _ code other next next'. halted_word u h p s k code next ∙ sym (halted_word u h p s k other next');
   next = λ u s k code next.
       subst (λ x. Shows u p x) (sym (halted_same u (suc h) code s (ap (λ (x : State). (hart x (suc h)).mode) k.state ∙ ap (λ (t : Hart). t.mode) (halted (p.harts - 1) h)))) k;
 }

@@ -42,8 +42,9 @@ pub record Shows (u : Setup) (p : PlainState) (s : State) : Type 0 where
   pub quiet : p.arch.sie ≡ 0
   pub aligned : p.arch.pc % 4 ≡ 0
 
--- A turn of the plain run: whatever state is shown before it, the hart's next word has a code where the machine goes on,
+-- A turn of the plain run: whatever state is shown before it, the hart's next word has one code where the machine goes on,
 -- and by each code that it has the state behind the turn is shown.
 pub record Turned (h : ℕ) (p q : PlainState) : Type 0 where
   pub code : (u : Setup) (s : State) → Shows u p s → p.reason ≡ None → (code : Code) × IsNext u s h code
+  pub only : (u : Setup) (s : State) → Shows u p s → p.reason ≡ None → (code other : Code) → IsNext u s h code → IsNext u s h other → code ≡ other
   pub next : (u : Setup) (s : State) → Shows u p s → (code : Code) → IsNext u s h code → Shows u q (after_turn u h code s)

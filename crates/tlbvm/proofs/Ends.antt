@@ -9,6 +9,7 @@ use Rattle.ref_machine.specs.Plain.{IsPlainRun, none}
 use Rattle.ref_machine.specs.PlainState.{PlainState}
 use Rattle.ref_machine.specs.Ran.{GoesOn, Ran}
 use Rattle.ref_machine.proofs.Grows.{plain_runs}
+use Rattle.ref_machine.proofs.Runs.{first_only}
 use Rattle.tlbvm.specs.declared.start.Refusal.{Refusal}
 use Rattle.tlbvm.specs.declared.status.Status.{Status}
 use Rattle.tlbvm.specs.Order.{order_of}
@@ -40,6 +41,7 @@ one_run files p q turns s ran =
       run = run;
       is_run = plain_runs u (replicate turns 0) run plain;
       is_plain = plain;
+      is_only = λ other k. g.only (first_only u) other (subst (λ order. IsPlainRun u order other) (sym (append_nil (replicate turns 0))) k);
       is_reason = ap (λ (x : State). x.reason) g.shown.state;
       is_output = ap (λ (x : State). x.output) g.shown.state;
     }

@@ -94,7 +94,7 @@ pub record IsStarted (files : Files) (machine : PlainState) (turns : ℕ) : Type
   pub is_order : order_of text ≡ Some turns
   pub first : Shows (plain_setup file image) machine (initial (plain_setup file image))
 
--- One run of the reference machine from the image of the ELF file: the plain run of the order. This is its first reason,
+-- One run of the reference machine from the image of the ELF file: the one plain run of the order. This is its first reason,
 -- if it has one, and its output.
 pub record OneRun (files : Files) (reason : Option Reason) (output : List ℕ) : Type 0 where
   pub file : List ℕ
@@ -109,6 +109,7 @@ pub record OneRun (files : Files) (reason : Option Reason) (output : List ℕ) :
   pub run : List Event
   pub is_run : IsRun (plain_setup file image) run
   pub is_plain : IsPlainRun (plain_setup file image) (replicate turns 0) run
+  pub is_only : (other : List Event) → IsPlainRun (plain_setup file image) (replicate turns 0) other → other ≡ run
   pub is_reason : (state_of (plain_setup file image) run).reason ≡ reason
   pub is_output : (state_of (plain_setup file image) run).output ≡ output
 
