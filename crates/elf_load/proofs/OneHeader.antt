@@ -1,13 +1,14 @@
 -- What the checks of a file with one program header come to.
-use Rattle.std.proofs.Common.{◌≡◌, refl, ℕ, ◌+◌, ◌-◌, ◌*◌, ◌%◌, List, [], ◌∷◌, ◌++◌, map, Some, None, Option, Ok, Err, true, false, Bool, not, ◌&&◌, ◌||◌, ap, sym, ◌∙◌, subst, arith}
-use Rattle.std.specs.Prelude.{◌≢◌, ◌==◌, IsTrue, nat_lt, if◌then◌else◌, filter, length, is_none}
-use Rattle.std.specs.List.{list_all, list_any}
+use Rattle.std.proofs.Common.{◌≡◌, refl, ℕ, ◌%◌, List, [], ◌∷◌, ◌++◌, map, Some, None, Option, Ok, true, false, Bool, not, ◌&&◌, ap, sym, ◌∙◌, subst}
+use Rattle.std.specs.Prelude.{◌≢◌, ◌==◌, IsTrue, if◌then◌else◌, filter, length, is_none}
+use Rattle.std.specs.List.{list_all}
 use Rattle.std.proofs.lemmas.Bool.{eqb-true, eq-eqb}
 use Rattle.elf_load.specs.declared.image.BadImage.{BadImage}
 use Rattle.elf_load.specs.declared.image.BadImage.TheVariants.{EntryOutside, Overlap}
 use Rattle.elf_load.specs.Loaded.{Loaded}
 use Rattle.elf_load.specs.Header.{Header, headers, headers_from, header_at, e_phoff, e_phnum, e_entry}
-use Rattle.elf_load.specs.ImageOf.{Check, check, first_failed, head_checks, place_checks, all_place_checks, checks, placed, is_placed, overlaps, start_among, start_of, is_bad_start, start_or_zero, part_of, loaded, answer_to, image_of, is_built, passes}
+use Rattle.elf_load.specs.ImageOf.{Check, check, first_failed, head_checks, place_checks, all_place_checks, checks, placed, is_placed, overlaps}
+use Rattle.elf_load.specs.ImageOf.{start_among, start_of, is_bad_start, start_or_zero, part_of, loaded, answer_to, image_of, is_built, passes}
 
 abbrev pub first_or : Option BadImage → Option BadImage → Option BadImage
 first_or None p = p
@@ -43,7 +44,7 @@ built_one file built = eqb-true (e_phnum file) 1 (and_left (e_phnum file == 1) (
 pub built_placed : (file : List ℕ) → IsTrue (is_built file) → is_placed (header_at file (e_phoff file)) ≡ true
 built_placed file built =
     let all : list_all is_placed (header_at file (e_phoff file) ∷ []) ≡ true
-        = subst (λ hs. list_all is_placed hs ≡ true) (headers_one file (built_one file built)) (and_right (e_phnum file == 1) (list_all is_placed (headers file)) built) in
+    = subst (λ hs. list_all is_placed hs ≡ true) (headers_one file (built_one file built)) (and_right (e_phnum file == 1) (list_all is_placed (headers file)) built) in
     and_left (is_placed (header_at file (e_phoff file))) true all
 
 pub is_built_by : (file : List ℕ) → e_phnum file ≡ 1 → is_placed (header_at file (e_phoff file)) ≡ true → IsTrue (is_built file)
@@ -60,9 +61,9 @@ placed_one file one is =
 -- the faults of such a file, in order
 faults_one : (file : List ℕ) (pages : ℕ) → e_phnum file ≡ 1 → is_placed (header_at file (e_phoff file)) ≡ true
     → first_failed (checks file pages)
-      ≡ first_or (first_failed (head_checks file))
-          (first_or (first_failed (place_checks (length file) pages (header_at file (e_phoff file))))
-              (if is_bad_start (start_among (e_entry file) (header_at file (e_phoff file) ∷ [])) then Some EntryOutside else None))
+    ≡ first_or (first_failed (head_checks file))
+    (first_or (first_failed (place_checks (length file) pages (header_at file (e_phoff file))))
+    (if is_bad_start (start_among (e_entry file) (header_at file (e_phoff file) ∷ [])) then Some EntryOutside else None))
 faults_one file pages one is =
     let h = header_at file (e_phoff file) in
     let rest : List Header → List Check = λ hs. all_place_checks (length file) pages hs ++ (check (overlaps hs) Overlap ∷ check (is_bad_start (start_among (e_entry file) hs)) EntryOutside ∷ []) in
@@ -92,11 +93,11 @@ unfolding image_of
 accepted_one file pages start one is head place begins aligned =
     let h = header_at file (e_phoff file) in
     ap (λ o. answer_to o (loaded file))
-        (faults_one file pages one is
-        ∙ ap (λ o. first_or o (first_or (first_failed (place_checks (length file) pages h)) (if is_bad_start (start_among (e_entry file) (h ∷ [])) then Some EntryOutside else None))) (none_passes (first_failed (head_checks file)) head)
-        ∙ ap (λ o. first_or o (if is_bad_start (start_among (e_entry file) (h ∷ [])) then Some EntryOutside else None)) (none_passes (first_failed (place_checks (length file) pages h)) place)
-        ∙ ap (λ s. if is_bad_start s then Some EntryOutside else None) begins
-        ∙ ap (λ b. if not b then Some EntryOutside else None) (eq-eqb (start % 4) 0 aligned))
+    (faults_one file pages one is
+    ∙ ap (λ o. first_or o (first_or (first_failed (place_checks (length file) pages h)) (if is_bad_start (start_among (e_entry file) (h ∷ [])) then Some EntryOutside else None))) (none_passes (first_failed (head_checks file)) head)
+    ∙ ap (λ o. first_or o (if is_bad_start (start_among (e_entry file) (h ∷ [])) then Some EntryOutside else None)) (none_passes (first_failed (place_checks (length file) pages h)) place)
+    ∙ ap (λ s. if is_bad_start s then Some EntryOutside else None) begins
+    ∙ ap (λ b. if not b then Some EntryOutside else None) (eq-eqb (start % 4) 0 aligned))
     ∙ ap Ok (loaded_one file one is ∙ ap (λ s. record { start = start_or_zero s; parts = part_of h ∷ [] }) begins)
 
 pub refused_head : (file : List ℕ) (pages : ℕ) (image : Loaded) → passes (head_checks file) ≡ false → image_of file pages ≢ Ok image
@@ -104,7 +105,7 @@ unfolding image_of
 refused_head file pages image fails =
     let rest : List Check = all_place_checks (length file) pages (placed file) ++ (check (overlaps (placed file)) Overlap ∷ check (is_bad_start (start_of file)) EntryOutside ∷ []) in
     λ same. refused (first_failed (head_checks file)) (first_failed rest) image (loaded file) fails
-        (ap (λ o. answer_to o (loaded file)) (sym (whole file pages)) ∙ same)
+    (ap (λ o. answer_to o (loaded file)) (sym (whole file pages)) ∙ same)
   where
     whole : (file : List ℕ) (pages : ℕ) → first_failed (checks file pages)
         ≡ first_or (first_failed (head_checks file)) (first_failed (all_place_checks (length file) pages (placed file) ++ (check (overlaps (placed file)) Overlap ∷ check (is_bad_start (start_of file)) EntryOutside ∷ [])))
@@ -132,7 +133,7 @@ unfolding image_of
 refused_place file pages image built fails =
     let h = header_at file (e_phoff file) in
     λ same. behind (first_failed (head_checks file)) _ image (loaded file) (first_fails (first_failed (place_checks (length file) pages h)) (if is_bad_start (start_among (e_entry file) (h ∷ [])) then Some EntryOutside else None) fails)
-        (ap (λ o. answer_to o (loaded file)) (sym (faults_one file pages (built_one file built) (built_placed file built))) ∙ same)
+    (ap (λ o. answer_to o (loaded file)) (sym (faults_one file pages (built_one file built) (built_placed file built))) ∙ same)
 
 pub refused_start : (file : List ℕ) (pages : ℕ) (image : Loaded) → IsTrue (is_built file)
     → is_bad_start (start_among (e_entry file) (header_at file (e_phoff file) ∷ [])) ≡ true → image_of file pages ≢ Ok image
@@ -141,4 +142,4 @@ refused_start file pages image built bad =
     let h = header_at file (e_phoff file) in
     let last : is_none (if is_bad_start (start_among (e_entry file) (h ∷ [])) then Some EntryOutside else None) ≡ false = ap (λ b. is_none (if b then Some EntryOutside else None)) bad in
     λ same. behind (first_failed (head_checks file)) _ image (loaded file) (second_fails (first_failed (place_checks (length file) pages h)) (if is_bad_start (start_among (e_entry file) (h ∷ [])) then Some EntryOutside else None) last)
-        (ap (λ o. answer_to o (loaded file)) (sym (faults_one file pages (built_one file built) (built_placed file built))) ∙ same)
+    (ap (λ o. answer_to o (loaded file)) (sym (faults_one file pages (built_one file built) (built_placed file built))) ∙ same)

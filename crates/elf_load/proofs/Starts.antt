@@ -1,11 +1,12 @@
 -- An accepted program starts at a multiple of 4.
-use Rattle.std.proofs.Common.{◌≡◌, refl, ℕ, ◌+◌, ◌%◌, List, [], ◌∷◌, ◌++◌, Some, None, Option, Ok, Err, true, false, Bool, not, ap, sym, ◌∙◌, subst, arith}
-use Rattle.std.specs.Prelude.{◌==◌, if◌then◌else◌, length}
+use Rattle.std.proofs.Common.{◌≡◌, refl, ℕ, ◌%◌, List, [], ◌∷◌, ◌++◌, Some, None, Option, Ok, true, false, Bool, not, sym, ◌∙◌, subst}
+use Rattle.std.specs.Prelude.{◌==◌, length}
 use Rattle.std.proofs.lemmas.Bool.{eqb-true}
 use Rattle.elf_load.specs.declared.image.BadImage.{BadImage}
 use Rattle.elf_load.specs.declared.image.BadImage.TheVariants.{EntryOutside, Overlap}
 use Rattle.elf_load.specs.Loaded.{Loaded}
-use Rattle.elf_load.specs.ImageOf.{Check, check, first_failed, head_checks, all_place_checks, checks, placed, overlaps, start_of, is_bad_start, start_or_zero, loaded, answer_to, image_of, IsImageOf}
+use Rattle.elf_load.specs.ImageOf.{Check, check, first_failed, head_checks, all_place_checks, checks, placed, overlaps, start_of, is_bad_start}
+use Rattle.elf_load.specs.ImageOf.{start_or_zero, loaded, answer_to, image_of, IsImageOf}
 use Rattle.elf_load.proofs.OneHeader.{first_or, failed_append}
 
 later_none : (o p : Option BadImage) → first_or o p ≡ None → p ≡ None
@@ -35,6 +36,6 @@ start_aligned file pages image of =
     let both = answered (first_failed (checks file of.read_for)) (loaded file) image of.is_image in
     let tail : List Check = check (overlaps (placed file)) Overlap ∷ check (is_bad_start (start_of file)) EntryOutside ∷ [] in
     let rest : first_failed tail ≡ None
-        = later_none (first_failed (head_checks file ++ all_place_checks (length file) of.read_for (placed file))) (first_failed tail)
-            (sym (failed_append (head_checks file ++ all_place_checks (length file) of.read_for (placed file)) tail) ∙ both.0) in
+    = later_none (first_failed (head_checks file ++ all_place_checks (length file) of.read_for (placed file))) (first_failed tail)
+    (sym (failed_append (head_checks file ++ all_place_checks (length file) of.read_for (placed file)) tail) ∙ both.0) in
     subst (λ (l : Loaded). l.start % 4 ≡ 0) both.1 (good_start (start_of file) (last_passes (overlaps (placed file)) (is_bad_start (start_of file)) rest))

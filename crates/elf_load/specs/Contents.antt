@@ -1,4 +1,4 @@
--- What an image puts into memory.
+-- What an image puts into memory (ELF-64 Object File Format, "Program header table": past p_filesz a segment holds zeros).
 use Rattle.std.specs.Prelude.{ℕ, ◌+◌, ◌-◌, ◌*◌, ◌^◌, Bool, ◌&&◌, nat_lt, nat_le, if◌then◌else◌, List, [], ◌∷◌, slice_index}
 use Rattle.elf_load.specs.declared.image.Part.{Part}
 

@@ -1,4 +1,4 @@
--- A program header as the code keeps it.
+-- A program header as the code keeps it (ELF-64 Object File Format, "Program header table").
 use Rattle.elf_load.specs.declared.header.ProgramHeader.{ProgramHeader}
 use Rattle.elf_load.specs.Header.{Header}
 

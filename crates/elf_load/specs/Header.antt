@@ -1,4 +1,4 @@
--- The fields of an ELF-64 file (ELF-64 Object File Format, "ELF Header" and "Program Header Table").
+-- The fields of an ELF-64 file (ELF-64 Object File Format, "ELF header" and "Program header table").
 use Rattle.std.specs.Prelude.{ℕ, zero, suc, ◌+◌, ◌*◌, List, [], ◌∷◌, slice_index}
 
 -- the little-endian number of so many bytes from a place on
@@ -38,13 +38,13 @@ pub record Header : Type 0 where
 
 abbrev pub header_at : List ℕ → (place : ℕ) → Header
 header_at file place = record {
-    p_type = number_at file place 4;
-    p_offset = number_at file (place + 8) 8;
-    p_vaddr = number_at file (place + 16) 8;
-    p_paddr = number_at file (place + 24) 8;
-    p_filesz = number_at file (place + 32) 8;
-    p_memsz = number_at file (place + 40) 8
-  }
+  p_type = number_at file place 4;
+  p_offset = number_at file (place + 8) 8;
+  p_vaddr = number_at file (place + 16) 8;
+  p_paddr = number_at file (place + 24) 8;
+  p_filesz = number_at file (place + 32) 8;
+  p_memsz = number_at file (place + 40) 8;
+}
 
 -- so many headers of 56 bytes from a place on
 unfoldable pub headers_from : List ℕ → (place count : ℕ) → List Header

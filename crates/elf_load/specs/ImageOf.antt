@@ -1,5 +1,7 @@
--- Which files are accepted: the first check that a file fails, or its image. Sums don't wrap.
-use Rattle.std.specs.Prelude.{◌≡◌, ◌≤◌, ℕ, ◌+◌, ◌-◌, ◌*◌, ◌%◌, ◌^◌, Bool, true, false, not, ◌&&◌, ◌||◌, ◌==◌, nat_lt, nat_le, if◌then◌else◌, List, [], ◌∷◌, ◌++◌, map, filter, length, slice_index, Option, Some, None, is_none, Result, Ok, Err}
+-- Which files are accepted: the first check that a file fails, or its image. Sums don't wrap. (ELF-64 Object File Format, "ELF header"
+-- and "Program header table"; e_machine and the bits of e_flags: RISC-V ELF psABI, "File Header".)
+use Rattle.std.specs.Prelude.{◌≡◌, ◌≤◌, ℕ, ◌+◌, ◌-◌, ◌*◌, ◌%◌, ◌^◌, Bool, true, false, not, ◌&&◌, ◌||◌, ◌==◌, nat_lt, nat_le, if◌then◌else◌, List, []}
+use Rattle.std.specs.Prelude.{◌∷◌, ◌++◌, map, filter, length, slice_index, Option, Some, None, is_none, Result, Ok, Err}
 use Rattle.std.specs.List.{list_any, list_all}
 use Rattle.elf_load.specs.declared.image.BadImage.{BadImage}
 use Rattle.elf_load.specs.declared.image.BadImage.TheVariants.{Short, NotElf, NotRv64, NotExec, Compressed, SegmentOutside, Overlap, EntryOutside}

@@ -1,4 +1,4 @@
--- What an image is to a contract: where the machine starts, and what its parts put into memory.
+-- What an image is to a contract: where the machine starts (ELF-64 Object File Format, "ELF header", e_entry), and its parts.
 use Rattle.std.specs.Prelude.{ℕ, List}
 use Rattle.elf_load.specs.declared.image.Part.{Part}
 use Rattle.elf_load.specs.declared.image.Image.TheInside.{Inside}

@@ -7,6 +7,7 @@ use byteorder::{ByteOrder, LittleEndian};
 
 /// The bytes of the file's header, and of a program header.
 pub(crate) const FILE_HEADER: usize = 64;
+
 pub(crate) const PROGRAM_HEADER: usize = 56;
 
 pub(crate) fn u16_at(file: &[u8], place: usize) -> u16

@@ -8,3 +8,6 @@ mod parsing;
 
 pub use image::{BadImage, Image, ImageErr, Part};
 pub use parsing::parse;
+
+#[cfg(test)]
+mod tests;

@@ -1,20 +1,28 @@
 // The checks of a file, in their order, and the image of a file that passes them.
-ghost use Rattle.std.specs.Prelude.{◌≡◌, ◌≢◌, ◌≤◌, ◌<◌, ◌+◌, ◌*◌, ◌^◌, ◌%◌, ◌∷◌, [], length, true, IsTrue, IsNone, IfOk, IfSome, IsErrOf, Ok, Some};
+ghost use Rattle.std.specs.Prelude.{◌≡◌, ◌≢◌, ◌≤◌, ◌<◌, ◌+◌, ◌*◌, ◌^◌, ◌%◌, ◌∷◌, [], length, true, IsTrue, IsNone, IfOk, IfSome};
+ghost use Rattle.std.specs.Prelude.{IsErrOf, Ok, Some};
 ghost use Rattle.elf_load.specs.Fields.{fields_of};
 ghost use Rattle.elf_load.specs.Loaded.{Loaded};
-ghost use Rattle.elf_load.specs.ImageOf.{head_checks, place_checks, passes, image_of, is_built, is_placed, start_among, is_bad_start};
+ghost use Rattle.elf_load.specs.ImageOf.{head_checks, place_checks, passes, image_of, is_built, is_placed, start_among};
+ghost use Rattle.elf_load.specs.ImageOf.{is_bad_start};
 
-use crate::header::{FILE_HEADER, PROGRAM_HEADER, ProgramHeader, program_header_at, u16_at, u32_at, u64_at};
+use crate::header::{
+    FILE_HEADER, PROGRAM_HEADER, ProgramHeader, program_header_at, u16_at, u32_at, u64_at,
+};
 use crate::image::{Image, ImageErr, Part};
 use std::alloc::Global;
 
 const RAM_BASE: u64 = 0x8000_0000;
+
 const PAGE_BYTES: u64 = 4096;
 
 /// 7f, and the letters E, L, F, as a little-endian number.
 const MAGIC: u32 = 0x464c_457f;
+
 const MACHINE_RISCV: u16 = 243;
+
 const TYPE_EXECUTABLE: u16 = 2;
+
 const TYPE_LOAD: u32 = 1;
 
 /// The file's own header passes its checks.

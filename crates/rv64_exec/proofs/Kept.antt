@@ -1,5 +1,5 @@
 -- What no built instruction changes, where the machine answers that it is done.
-use Rattle.std.proofs.Common.{◌≡◌, refl, ℕ, ◌+◌, ◌%◌, ◌^◌, true, arith, inl, inr}
+use Rattle.std.proofs.Common.{◌≡◌, refl, ◌%◌, true, arith, inl, inr}
 use Rattle.rv64_decode.specs.declared.instruction.Instr.{Instr}
 use Rattle.rv64_decode.specs.declared.instruction.Instr.TheVariants.{Lui, Addi, Sb, Sw}
 use Rattle.rv64_priv.specs.declared.state.Arch.{Arch}

@@ -1,5 +1,6 @@
--- The instructions that `plan` and `finish` serve so far.
-use Rattle.std.specs.Prelude.{◌≡◌, ◌⊎◌, ℕ, Bool, true, false}
+-- The instructions that `plan` and `finish` serve so far: LUI, ADDI, SB and SW (RISC-V Unprivileged ISA,
+-- "RV32I Base Integer Instruction Set").
+use Rattle.std.specs.Prelude.{◌≡◌, ◌⊎◌, Bool, true, false}
 use Rattle.rv64_decode.specs.declared.instruction.Instr.{Instr}
 use Rattle.rv64_decode.specs.declared.instruction.Instr.TheVariants.{Lui, Addi, Sb, Sw}
 use Rattle.rv64_exec.specs.declared.needs.Need.{Need}

@@ -1,13 +1,22 @@
--- What an instruction leaves of the hart, given the machine's answer.
-use Rattle.std.specs.Prelude.{◌≡◌, ℕ, Bool, not, ◌==◌, nat_lt, if◌then◌else◌, ℤ, int_lt, Option, Some, None, bit_and, bit_or, bit_xor, slice_set, unwrap_or, ◌⊎◌}
-use Rattle.rv64_exec.specs.Alu.{flag, add, sub, slt, sltu, sll, srl, sra, mul, mulh, mulhsu, mulhu, div, divu, rem, remu, addw, subw, sllw, srlw, sraw, mulw, divw, divuw, remw, remuw, u64, s64}
+-- What an instruction leaves of the hart, given the machine's answer (RISC-V Unprivileged ISA, "RV32I Base Integer Instruction Set",
+-- "RV64I Base Integer Instruction Set", and "M", "A", "Zicsr" and "Zifencei" Extension; Privileged Architecture, "Supervisor-Level ISA").
+use Rattle.std.specs.Prelude.{◌≡◌, ℕ, Bool, not, ◌==◌, nat_lt, if◌then◌else◌, ℤ, int_lt, Option, Some, None, bit_and, bit_or, bit_xor, slice_set}
+use Rattle.std.specs.Prelude.{unwrap_or, ◌⊎◌}
+use Rattle.rv64_exec.specs.Alu.{flag, add, sub, slt, sltu, sll, srl, sra, mul, mulh, mulhsu, mulhu, div, divu, rem, remu, addw, subw, sllw, srlw}
+use Rattle.rv64_exec.specs.Alu.{sraw, mulw, divw, divuw, remw, remuw, u64, s64}
 use Rattle.rv64_exec.specs.Plan.{reg, jal_target, jalr_target, CsrOp, Writes, Sets, Clears, makes_write, new_value}
 use Rattle.rv64_priv.specs.Csr.{csr_value, csr_written}
 use Rattle.rv64_priv.specs.Trap.{trapped, returned}
 use Rattle.rv64_priv.specs.declared.state.Hold.{Hold}
 use Rattle.rv64_exec.specs.Code.{Code}
 use Rattle.rv64_decode.specs.declared.instruction.Instr.{Instr}
-use Rattle.rv64_decode.specs.declared.instruction.Instr.TheVariants.{Lui, Auipc, Jal, Jalr, Lb, Lh, Lw, Ld, Lbu, Lhu, Lwu, Addi, Slti, Sltiu, Xori, Ori, Andi, Addiw, Slli, Srli, Srai, Slliw, Srliw, Sraiw, Beq, Bne, Blt, Bge, Bltu, Bgeu, Sb, Sh, Sw, Sd, Add, Sll, Slt, Sltu, Xor, Srl, Or, And, Sub, Sra, Mul, Mulh, Mulhsu, Mulhu, Div, Divu, Rem, Remu, Addw, Sllw, Srlw, Subw, Sraw, Mulw, Divw, Divuw, Remw, Remuw, Fence, Fencei, Ecall, Ebreak, Sret, Wfi, Sfencevma, Csrrw, Csrrs, Csrrc, Csrrwi, Csrrsi, Csrrci, Lr, Sc, Amoswap, Amoadd, Amoxor, Amoand, Amoor, Amomin, Amomax, Amominu, Amomaxu}
+use Rattle.rv64_decode.specs.declared.instruction.Instr.TheVariants.{Lui, Auipc, Jal, Jalr, Lb, Lh, Lw, Ld, Lbu, Lhu, Lwu, Addi, Slti, Sltiu, Xori}
+use Rattle.rv64_decode.specs.declared.instruction.Instr.TheVariants.{Ori, Andi, Addiw, Slli, Srli, Srai, Slliw, Srliw, Sraiw, Beq, Bne, Blt, Bge}
+use Rattle.rv64_decode.specs.declared.instruction.Instr.TheVariants.{Bltu, Bgeu, Sb, Sh, Sw, Sd, Add, Sll, Slt, Sltu, Xor, Srl, Or, And, Sub, Sra}
+use Rattle.rv64_decode.specs.declared.instruction.Instr.TheVariants.{Mul, Mulh, Mulhsu, Mulhu, Div, Divu, Rem, Remu, Addw, Sllw, Srlw, Subw, Sraw}
+use Rattle.rv64_decode.specs.declared.instruction.Instr.TheVariants.{Mulw, Divw, Divuw, Remw, Remuw, Fence, Fencei, Ecall, Ebreak, Sret, Wfi}
+use Rattle.rv64_decode.specs.declared.instruction.Instr.TheVariants.{Sfencevma, Csrrw, Csrrs, Csrrc, Csrrwi, Csrrsi, Csrrci, Lr, Sc, Amoswap, Amoadd}
+use Rattle.rv64_decode.specs.declared.instruction.Instr.TheVariants.{Amoxor, Amoand, Amoor, Amomin, Amomax, Amominu, Amomaxu}
 use Rattle.rv64_priv.specs.declared.state.Arch.{Arch}
 use Rattle.rv64_exec.specs.declared.needs.Need.{Need}
 use Rattle.rv64_exec.specs.declared.needs.Answer.{Answer}

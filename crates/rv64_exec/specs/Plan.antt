@@ -1,12 +1,17 @@
--- The one thing that an instruction needs of the machine.
-use Rattle.std.specs.Prelude.{ℕ, ◌-◌, ◌*◌, ◌/◌, ◌%◌, Bool, true, false, not, ◌&&◌, ◌||◌, ◌==◌, nat_lt, if◌then◌else◌, ℤ, int_lt, Option, Some, None, bit_and, bit_or, slice_index}
+-- The one thing that an instruction needs of the machine (RISC-V Unprivileged ISA, "RV32I Base Integer Instruction Set",
+-- "RV64I Base Integer Instruction Set", and "A" and "Zicsr" Extension; Privileged Architecture, "Supervisor Instructions").
+use Rattle.std.specs.Prelude.{ℕ, ◌-◌, ◌*◌, ◌/◌, ◌%◌, Bool, true, false, not, ◌&&◌, ◌||◌, ◌==◌, nat_lt, if◌then◌else◌, ℤ, int_lt, Option, Some, None}
+use Rattle.std.specs.Prelude.{bit_and, bit_or, slice_index}
 use Rattle.rv64_exec.specs.Alu.{add, u64, s64}
 use Rattle.rv64_priv.specs.Bits.{is_set}
 use Rattle.rv64_priv.specs.Csr.{csr_value, sum_of, mxr_of, satp_takes}
 use Rattle.rv64_decode.specs.Encoding.{encoding_of}
 use Rattle.rv64_exec.specs.Code.{Code}
 use Rattle.rv64_decode.specs.declared.instruction.Instr.{Instr}
-use Rattle.rv64_decode.specs.declared.instruction.Instr.TheVariants.{Jal, Jalr, Lb, Lh, Lw, Ld, Lbu, Lhu, Lwu, Beq, Bne, Blt, Bge, Bltu, Bgeu, Sb, Sh, Sw, Sd, Ecall, Ebreak, Sret, Sfencevma, Csrrw, Csrrs, Csrrc, Csrrwi, Csrrsi, Csrrci, Lr, Sc, Amoswap, Amoadd, Amoxor, Amoand, Amoor, Amomin, Amomax, Amominu, Amomaxu}
+use Rattle.rv64_decode.specs.declared.instruction.Instr.TheVariants.{Jal, Jalr, Lb, Lh, Lw, Ld, Lbu, Lhu, Lwu, Beq, Bne, Blt, Bge, Bltu, Bgeu, Sb, Sh}
+use Rattle.rv64_decode.specs.declared.instruction.Instr.TheVariants.{Sw, Sd, Ecall, Ebreak, Sret, Sfencevma, Csrrw, Csrrs, Csrrc, Csrrwi, Csrrsi}
+use Rattle.rv64_decode.specs.declared.instruction.Instr.TheVariants.{Csrrci, Lr, Sc, Amoswap, Amoadd, Amoxor, Amoand, Amoor, Amomin, Amomax, Amominu}
+use Rattle.rv64_decode.specs.declared.instruction.Instr.TheVariants.{Amomaxu}
 use Rattle.rv64_priv.specs.declared.state.Arch.{Arch}
 use Rattle.rv64_exec.specs.declared.needs.AmoOp.{AmoOp}
 use Rattle.rv64_exec.specs.declared.needs.IpiOp.{IpiOp}

@@ -10,3 +10,6 @@ pub use finishing::finish;
 pub use needs::{AmoOp, Answer, FlushOf, IpiOp, Need};
 pub use planning::{is_built, plan};
 pub use rv64_priv::{Arch, Hold, Kind, Regime};
+
+#[cfg(test)]
+mod tests;

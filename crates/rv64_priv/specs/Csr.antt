@@ -1,5 +1,6 @@
--- The CSRs of table B.
-use Rattle.std.specs.Prelude.{ℕ, ◌+◌, ◌*◌, ◌/◌, ◌%◌, ◌^◌, Bool, true, false, ◌||◌, ◌==◌, nat_lt, if◌then◌else◌, List, [], ◌∷◌, Option, Some, None, bit_and}
+-- The CSRs of supervisor mode (RISC-V Privileged Architecture, "Supervisor CSRs"; numbers: "CSR Listing").
+use Rattle.std.specs.Prelude.{ℕ, ◌+◌, ◌*◌, ◌/◌, ◌%◌, ◌^◌, Bool, ◌||◌, ◌==◌, nat_lt, if◌then◌else◌, List, [], ◌∷◌, Option, Some, None}
+use Rattle.std.specs.Prelude.{bit_and}
 use Rattle.rv64_priv.specs.declared.state.Arch.{Arch}
 use Rattle.rv64_priv.specs.declared.state.Regime.{Regime}
 use Rattle.rv64_priv.specs.Bits.{is_set, bit_if, aligned}
@@ -39,13 +40,14 @@ satp_kept v = aligned 60 v + v % 2 ^ 44
 abbrev pub satp_takes : ℕ → Bool
 satp_takes v = (v / 2 ^ 60 == 0) || (v / 2 ^ 60 == 8)
 
--- a CSR of table B: its number, what it reads, and the state that a write leaves
+-- a CSR: its number, what it reads, and the state that a write leaves
 pub record Csr : Type 0 where
   pub number : ℕ
   pub read : Arch → ℕ
   pub write : Arch → ℕ → Arch
 
--- table B, where sip is left to the machine
+-- the CSRs that there are; sip reads and writes a word of memory, so here it is 0: the machine serves it. UXL, bits 33..32
+-- of sstatus, reads 2, which is 64 bits. Bits 1, 5 and 9 of sie can be set. A write of satp with another MODE has no effect
 abbrev pub csrs : List Csr
 csrs =
     record { number = 0x100; read = λ a. a.sstatus + 2 * 2 ^ 32; write = λ a v. record a { sstatus = status_kept v } }
@@ -65,7 +67,7 @@ abbrev pub csr_of : List Csr → ℕ → Option Csr
 csr_of [] n = None
 csr_of (c ∷ cs) n = if n == c.number then Some c else csr_of cs n
 
--- what a CSR reads; none in user mode or where table B has no such number
+-- what a CSR reads; none in user mode or where no CSR has this number
 abbrev pub read_by : Arch → Option Csr → Option ℕ
 read_by a None = None
 read_by a (Some c) = Some (c.read a)

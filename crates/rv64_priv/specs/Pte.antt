@@ -1,5 +1,6 @@
--- The fields of a page-table entry, and what a leaf permits.
-use Rattle.std.specs.Prelude.{ℕ, ◌+◌, ◌*◌, ◌/◌, ◌%◌, ◌^◌, Bool, true, false, not, ◌&&◌, ◌||◌, ◌==◌, if◌then◌else◌}
+-- The fields of a page-table entry, and what a leaf permits (RISC-V Privileged Architecture, "Sv39: Page-Based 39-bit Virtual-Memory
+-- System" and "Virtual Address Translation Process").
+use Rattle.std.specs.Prelude.{ℕ, ◌/◌, ◌%◌, ◌^◌, Bool, not, ◌&&◌, ◌||◌, ◌==◌, if◌then◌else◌}
 use Rattle.rv64_priv.specs.declared.state.Kind.{Kind}
 use Rattle.rv64_priv.specs.declared.state.Kind.TheVariants.{Fetch, Load, Store}
 use Rattle.rv64_priv.specs.declared.state.Regime.{Regime}

@@ -1,4 +1,5 @@
--- Traps and the return from them.
+-- Traps and the return from them (RISC-V Privileged Architecture, "Supervisor Trap Vector Base Address (stvec) Register",
+-- "Supervisor Status (sstatus) Register", "Supervisor Cause (scause) Register" and "Trap-Return Instructions").
 use Rattle.std.specs.Prelude.{ℕ, ◌+◌, ◌-◌, ◌*◌, ◌%◌, ◌^◌, Bool, true, false, not, ◌&&◌, ◌||◌, ◌==◌, nat_le, if◌then◌else◌, None}
 use Rattle.rv64_priv.specs.declared.state.Arch.{Arch}
 use Rattle.rv64_priv.specs.declared.state.Kind.{Kind}
@@ -21,23 +22,23 @@ handler a cause =
 -- the state that a trap leaves
 abbrev pub trapped : Arch → ℕ → ℕ → Arch
 trapped a cause tval = record a {
-    pc = handler a cause;
-    user = false;
-    sstatus = status false (sie_of a.sstatus) (not a.user) (sum_of a.sstatus) (mxr_of a.sstatus);
-    sepc = a.pc;
-    scause = cause;
-    stval = tval;
-    hold = None
-  }
+  pc = handler a cause;
+  user = false;
+  sstatus = status false (sie_of a.sstatus) (not a.user) (sum_of a.sstatus) (mxr_of a.sstatus);
+  sepc = a.pc;
+  scause = cause;
+  stval = tval;
+  hold = None;
+}
 
 -- the state that SRET leaves
 abbrev pub returned : Arch → Arch
 returned a = record a {
-    pc = a.sepc;
-    user = not (spp_of a.sstatus);
-    sstatus = status (spie_of a.sstatus) true false (sum_of a.sstatus) (mxr_of a.sstatus);
-    hold = None
-  }
+  pc = a.sepc;
+  user = not (spp_of a.sstatus);
+  sstatus = status (spie_of a.sstatus) true false (sum_of a.sstatus) (mxr_of a.sstatus);
+  hold = None;
+}
 
 -- the supervisor software interrupt is enabled
 abbrev pub takes_interrupts : Arch → Bool

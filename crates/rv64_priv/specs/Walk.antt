@@ -1,5 +1,6 @@
--- The Sv39 walk.
-use Rattle.std.specs.Prelude.{ℕ, zero, suc, ◌+◌, ◌-◌, ◌*◌, ◌/◌, ◌%◌, ◌^◌, Bool, true, false, not, ◌&&◌, ◌||◌, ◌==◌, nat_le, nat_lt, if◌then◌else◌}
+-- The walk of the page tables (RISC-V Privileged Architecture, "Sv39: Page-Based 39-bit Virtual-Memory System" and
+-- "Virtual Address Translation Process").
+use Rattle.std.specs.Prelude.{ℕ, zero, suc, ◌+◌, ◌-◌, ◌*◌, ◌/◌, ◌%◌, ◌^◌, Bool, not, ◌&&◌, ◌||◌, ◌==◌, nat_le, nat_lt, if◌then◌else◌}
 use Rattle.rv64_priv.specs.declared.state.Kind.{Kind}
 use Rattle.rv64_priv.specs.declared.state.Kind.TheVariants.{Fetch, Load, Store}
 use Rattle.rv64_priv.specs.declared.state.Regime.{Regime}

@@ -7,3 +7,6 @@ mod traps;
 
 pub use state::{Arch, Hold, Kind, Regime, regime_of};
 pub use traps::{sret, trap};
+
+#[cfg(test)]
+mod tests;

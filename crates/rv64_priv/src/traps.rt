@@ -6,9 +6,13 @@ ghost use Rattle.rv64_priv.specs.Trap.{handler, trapped, returned};
 use crate::state::Arch;
 
 const SIE: u32 = 1;
+
 const SPIE: u32 = 5;
+
 const SPP: u32 = 8;
+
 const SUM: u32 = 18;
+
 const MXR: u32 = 19;
 
 /// Bit 63 of scause: the trap is an interrupt.

@@ -4,3 +4,6 @@
 mod words;
 
 pub use words::{FIRST_RAM_WORD, Layout, PAGE_BYTES, RAM_BASE, ram_word};
+
+#[cfg(test)]
+mod tests;
