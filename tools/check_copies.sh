@@ -1,0 +1,20 @@
+#!/bin/sh
+# Files that stand twice are equal: the program's stored run reads the example's files, and the example is what its script writes.
+cd -- "$(dirname -- "$0")/.." || exit 1
+status=0
+
+same() {
+    if ! cmp -- "$1" "$2"; then
+        echo "check_copies: $2 is no copy of $1" >&2
+        status=1
+    fi
+}
+
+for file in hello.elf hello.order; do
+    same "examples/$file" "crates/tlbvm_main/data/$file"
+done
+if ! python3 examples/make_hello.py | cmp -- - examples/hello.elf; then
+    echo "check_copies: examples/hello.elf is not what examples/make_hello.py writes" >&2
+    status=1
+fi
+exit $status
