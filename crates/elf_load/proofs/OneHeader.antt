@@ -1,8 +1,8 @@
 -- What the checks of a file with one program header come to.
-use Rattle.std.proofs.Common.{◌≡◌, refl, ℕ, ◌%◌, List, [], ◌∷◌, ◌++◌, map, Some, None, Option, Ok, true, false, Bool, not, ◌&&◌, ap, sym, ◌∙◌, subst}
+use Rattle.std.proofs.Common.{◌≡◌, refl, ℕ, ◌%◌, List, [], ◌∷◌, ◌++◌, map, Some, None, Option, Ok, Err, true, false, Bool, not, ◌&&◌, ◌||◌, ap, sym, ◌∙◌, subst}
 use Rattle.std.specs.Prelude.{◌≢◌, ◌==◌, IsTrue, if◌then◌else◌, filter, length, is_none}
 use Rattle.std.specs.List.{list_all}
-use Rattle.std.proofs.lemmas.Bool.{eqb-true, eq-eqb}
+use Rattle.std.proofs.lemmas.Bool.{eq-eqb, ne_eqb}
 use Rattle.elf_load.specs.declared.image.BadImage.{BadImage}
 use Rattle.elf_load.specs.declared.image.BadImage.TheVariants.{EntryOutside, Overlap}
 use Rattle.elf_load.specs.Loaded.{Loaded}
@@ -30,26 +30,32 @@ headers_one : (file : List ℕ) → e_phnum file ≡ 1 → headers file ≡ head
 unfolding headers_from
 headers_one file one = ap (λ n. headers_from file (e_phoff file) n) one
 
-and_left : (p q : Bool) → p && q ≡ true → p ≡ true
-and_left true q e = refl
-and_left false q e = e
+-- a file of one header that places something is built
+pub built_by : (file : List ℕ) → e_phnum file ≡ 1 → is_placed (header_at file (e_phoff file)) ≡ true → is_built file ≡ true
+built_by file one is =
+    ap (λ b. not (passes (head_checks file)) || (b && list_all is_placed (headers file))) (eq-eqb (e_phnum file) 1 one)
+    ∙ ap (λ hs. not (passes (head_checks file)) || list_all is_placed hs) (headers_one file one)
+    ∙ ap (λ b. not (passes (head_checks file)) || (b && true)) is
+    ∙ or_true (not (passes (head_checks file)))
+  where
+    or_true : (b : Bool) → b || true ≡ true
+    or_true true = refl
+    or_true false = refl
 
-and_right : (p q : Bool) → p && q ≡ true → q ≡ true
-and_right true q e = e
-and_right false q e = cc
+-- and so is one that fails a check of its own header
+pub built_refused : (file : List ℕ) (kind : BadImage) → first_failed (head_checks file) ≡ Some kind → is_built file ≡ true
+built_refused file kind e = ap (λ o. not (is_none o) || ((e_phnum file == 1) && list_all is_placed (headers file))) e
 
-pub built_one : (file : List ℕ) → IsTrue (is_built file) → e_phnum file ≡ 1
-built_one file built = eqb-true (e_phnum file) 1 (and_left (e_phnum file == 1) (list_all is_placed (headers file)) built)
+-- one whose header passes is not, with another number of headers or one that places nothing
+pub unbuilt_number : (file : List ℕ) → first_failed (head_checks file) ≡ None → (e_phnum file ≡ 1 → ⊥) → is_built file ≡ false
+unbuilt_number file e other =
+    ap (λ o. not (is_none o) || ((e_phnum file == 1) && list_all is_placed (headers file))) e
+    ∙ ap (λ b. b && list_all is_placed (headers file)) (ne_eqb (e_phnum file) 1 other)
 
-pub built_placed : (file : List ℕ) → IsTrue (is_built file) → is_placed (header_at file (e_phoff file)) ≡ true
-built_placed file built =
-    let all : list_all is_placed (header_at file (e_phoff file) ∷ []) ≡ true
-    = subst (λ hs. list_all is_placed hs ≡ true) (headers_one file (built_one file built)) (and_right (e_phnum file == 1) (list_all is_placed (headers file)) built) in
-    and_left (is_placed (header_at file (e_phoff file))) true all
-
-pub is_built_by : (file : List ℕ) → e_phnum file ≡ 1 → is_placed (header_at file (e_phoff file)) ≡ true → IsTrue (is_built file)
-is_built_by file one is =
-    ap (λ b. b && list_all is_placed (headers file)) (eq-eqb (e_phnum file) 1 one)
+pub unbuilt_placed : (file : List ℕ) → first_failed (head_checks file) ≡ None → e_phnum file ≡ 1 → is_placed (header_at file (e_phoff file)) ≡ false → is_built file ≡ false
+unbuilt_placed file e one is =
+    ap (λ o. not (is_none o) || ((e_phnum file == 1) && list_all is_placed (headers file))) e
+    ∙ ap (λ b. b && list_all is_placed (headers file)) (eq-eqb (e_phnum file) 1 one)
     ∙ ap (λ hs. list_all is_placed hs) (headers_one file one)
     ∙ ap (λ b. b && true) is
 
@@ -77,16 +83,8 @@ loaded_one : (file : List ℕ) → e_phnum file ≡ 1 → is_placed (header_at f
     → loaded file ≡ record { start = start_or_zero (start_among (e_entry file) (header_at file (e_phoff file) ∷ [])); parts = part_of (header_at file (e_phoff file)) ∷ [] }
 loaded_one file one is = ap (λ hs. record { start = start_or_zero (start_among (e_entry file) hs); parts = map part_of hs }) (placed_one file one is)
 
-none_passes : (o : Option BadImage) → is_none o ≡ true → o ≡ None
-none_passes None e = refl
-none_passes (Some k) e = cc
-
-refused : (o p : Option BadImage) (image loaded' : Loaded) → is_none o ≡ false → answer_to (first_or o p) loaded' ≢ Ok image
-refused None p image l e = cc
-refused (Some k) p image l e = λ same. cc
-
 pub accepted_one : (file : List ℕ) (pages start : ℕ) → e_phnum file ≡ 1 → is_placed (header_at file (e_phoff file)) ≡ true
-    → passes (head_checks file) ≡ true → passes (place_checks (length file) pages (header_at file (e_phoff file))) ≡ true
+    → first_failed (head_checks file) ≡ None → first_failed (place_checks (length file) pages (header_at file (e_phoff file))) ≡ None
     → start_among (e_entry file) (header_at file (e_phoff file) ∷ []) ≡ Some start → start % 4 ≡ 0
     → image_of file pages ≡ Ok (record { start = start; parts = part_of (header_at file (e_phoff file)) ∷ [] })
 unfolding image_of
@@ -94,52 +92,39 @@ accepted_one file pages start one is head place begins aligned =
     let h = header_at file (e_phoff file) in
     ap (λ o. answer_to o (loaded file))
     (faults_one file pages one is
-    ∙ ap (λ o. first_or o (first_or (first_failed (place_checks (length file) pages h)) (if is_bad_start (start_among (e_entry file) (h ∷ [])) then Some EntryOutside else None))) (none_passes (first_failed (head_checks file)) head)
-    ∙ ap (λ o. first_or o (if is_bad_start (start_among (e_entry file) (h ∷ [])) then Some EntryOutside else None)) (none_passes (first_failed (place_checks (length file) pages h)) place)
+    ∙ ap (λ o. first_or o (first_or (first_failed (place_checks (length file) pages h)) (if is_bad_start (start_among (e_entry file) (h ∷ [])) then Some EntryOutside else None))) head
+    ∙ ap (λ o. first_or o (if is_bad_start (start_among (e_entry file) (h ∷ [])) then Some EntryOutside else None)) place
     ∙ ap (λ s. if is_bad_start s then Some EntryOutside else None) begins
     ∙ ap (λ b. if not b then Some EntryOutside else None) (eq-eqb (start % 4) 0 aligned))
     ∙ ap Ok (loaded_one file one is ∙ ap (λ s. record { start = start_or_zero s; parts = part_of h ∷ [] }) begins)
 
-pub refused_head : (file : List ℕ) (pages : ℕ) (image : Loaded) → passes (head_checks file) ≡ false → image_of file pages ≢ Ok image
+pub refused_head : (file : List ℕ) (pages : ℕ) (kind : BadImage) → first_failed (head_checks file) ≡ Some kind → image_of file pages ≡ Err kind
 unfolding image_of
-refused_head file pages image fails =
+refused_head file pages kind fails =
     let rest : List Check = all_place_checks (length file) pages (placed file) ++ (check (overlaps (placed file)) Overlap ∷ check (is_bad_start (start_of file)) EntryOutside ∷ []) in
-    λ same. refused (first_failed (head_checks file)) (first_failed rest) image (loaded file) fails
-    (ap (λ o. answer_to o (loaded file)) (sym (whole file pages)) ∙ same)
-  where
-    whole : (file : List ℕ) (pages : ℕ) → first_failed (checks file pages)
-        ≡ first_or (first_failed (head_checks file)) (first_failed (all_place_checks (length file) pages (placed file) ++ (check (overlaps (placed file)) Overlap ∷ check (is_bad_start (start_of file)) EntryOutside ∷ [])))
-    whole file pages =
-        assoc (head_checks file) (all_place_checks (length file) pages (placed file)) (check (overlaps (placed file)) Overlap ∷ check (is_bad_start (start_of file)) EntryOutside ∷ [])
-        ∙ failed_append (head_checks file) (all_place_checks (length file) pages (placed file) ++ (check (overlaps (placed file)) Overlap ∷ check (is_bad_start (start_of file)) EntryOutside ∷ []))
+    ap (λ o. answer_to o (loaded file))
+    (assoc (head_checks file) (all_place_checks (length file) pages (placed file)) (check (overlaps (placed file)) Overlap ∷ check (is_bad_start (start_of file)) EntryOutside ∷ [])
+    ∙ failed_append (head_checks file) rest
+    ∙ ap (λ o. first_or o (first_failed rest)) fails)
 
--- behind a head that passes
-behind : (o p : Option BadImage) (image l : Loaded) → is_none p ≡ false → answer_to (first_or o p) l ≢ Ok image
-behind None None image l e = cc
-behind None (Some k) image l e = λ same. cc
-behind (Some j) p image l e = λ same. cc
-
-first_fails : (o p : Option BadImage) → is_none o ≡ false → is_none (first_or o p) ≡ false
-first_fails None p e = cc
-first_fails (Some k) p e = refl
-
-second_fails : (o p : Option BadImage) → is_none p ≡ false → is_none (first_or o p) ≡ false
-second_fails None p e = e
-second_fails (Some k) p e = refl
-
-pub refused_place : (file : List ℕ) (pages : ℕ) (image : Loaded) → IsTrue (is_built file)
-    → passes (place_checks (length file) pages (header_at file (e_phoff file))) ≡ false → image_of file pages ≢ Ok image
+pub refused_place : (file : List ℕ) (pages : ℕ) (kind : BadImage) → e_phnum file ≡ 1 → is_placed (header_at file (e_phoff file)) ≡ true → first_failed (head_checks file) ≡ None
+    → first_failed (place_checks (length file) pages (header_at file (e_phoff file))) ≡ Some kind → image_of file pages ≡ Err kind
 unfolding image_of
-refused_place file pages image built fails =
+refused_place file pages kind one is head fails =
     let h = header_at file (e_phoff file) in
-    λ same. behind (first_failed (head_checks file)) _ image (loaded file) (first_fails (first_failed (place_checks (length file) pages h)) (if is_bad_start (start_among (e_entry file) (h ∷ [])) then Some EntryOutside else None) fails)
-    (ap (λ o. answer_to o (loaded file)) (sym (faults_one file pages (built_one file built) (built_placed file built))) ∙ same)
+    ap (λ o. answer_to o (loaded file))
+    (faults_one file pages one is
+    ∙ ap (λ o. first_or o (first_or (first_failed (place_checks (length file) pages h)) (if is_bad_start (start_among (e_entry file) (h ∷ [])) then Some EntryOutside else None))) head
+    ∙ ap (λ o. first_or o (if is_bad_start (start_among (e_entry file) (h ∷ [])) then Some EntryOutside else None)) fails)
 
-pub refused_start : (file : List ℕ) (pages : ℕ) (image : Loaded) → IsTrue (is_built file)
-    → is_bad_start (start_among (e_entry file) (header_at file (e_phoff file) ∷ [])) ≡ true → image_of file pages ≢ Ok image
+pub refused_start : (file : List ℕ) (pages : ℕ) → e_phnum file ≡ 1 → is_placed (header_at file (e_phoff file)) ≡ true → first_failed (head_checks file) ≡ None
+    → first_failed (place_checks (length file) pages (header_at file (e_phoff file))) ≡ None
+    → is_bad_start (start_among (e_entry file) (header_at file (e_phoff file) ∷ [])) ≡ true → image_of file pages ≡ Err EntryOutside
 unfolding image_of
-refused_start file pages image built bad =
+refused_start file pages one is head place bad =
     let h = header_at file (e_phoff file) in
-    let last : is_none (if is_bad_start (start_among (e_entry file) (h ∷ [])) then Some EntryOutside else None) ≡ false = ap (λ b. is_none (if b then Some EntryOutside else None)) bad in
-    λ same. behind (first_failed (head_checks file)) _ image (loaded file) (second_fails (first_failed (place_checks (length file) pages h)) (if is_bad_start (start_among (e_entry file) (h ∷ [])) then Some EntryOutside else None) last)
-    (ap (λ o. answer_to o (loaded file)) (sym (faults_one file pages (built_one file built) (built_placed file built))) ∙ same)
+    ap (λ o. answer_to o (loaded file))
+    (faults_one file pages one is
+    ∙ ap (λ o. first_or o (first_or (first_failed (place_checks (length file) pages h)) (if is_bad_start (start_among (e_entry file) (h ∷ [])) then Some EntryOutside else None))) head
+    ∙ ap (λ o. first_or o (if is_bad_start (start_among (e_entry file) (h ∷ [])) then Some EntryOutside else None)) place
+    ∙ ap (λ b. if b then Some EntryOutside else None) bad)

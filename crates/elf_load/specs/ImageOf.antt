@@ -112,13 +112,13 @@ answer_to (Some kind) image = Err kind
 unfoldable pub image_of : List ℕ → (pages : ℕ) → Result Loaded BadImage
 image_of file pages = answer_to (first_failed (checks file pages)) (loaded file)
 
--- the files that are built so far: they have one program header, and it places something
-abbrev pub is_built : List ℕ → Bool
-is_built file = (e_phnum file == 1) && list_all is_placed (headers file)
-
 -- no check of a list fails
 abbrev pub passes : List Check → Bool
 passes cs = is_none (first_failed cs)
+
+-- the files that are built so far: they fail a check of their own header, or have one program header, and it places something
+abbrev pub is_built : List ℕ → Bool
+is_built file = not (passes (head_checks file)) || ((e_phnum file == 1) && list_all is_placed (headers file))
 
 -- the image was read from this file, for a machine of no more pages than these
 pub record IsImageOf (file : List ℕ) (pages : ℕ) (image : Loaded) : Type 0 where

@@ -26,6 +26,8 @@ pub enum BadImage {
 /// Why a file gave no image.
 #[derive(Clone, Copy, Debug, PartialEq, Eq, Error)]
 pub enum ImageErr {
+    #[error("bad image: {0}")]
+    Bad(BadImage),
     #[error("not built")]
     Unbuilt,
     #[error("out of memory")]

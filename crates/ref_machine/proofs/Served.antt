@@ -183,14 +183,14 @@ abbrev ending : (value : ℕ) (b c : Bool) → DeviceStore
 ending value b c = if b then Ends Reason.Pass else (if c then Ends (Reason.Fail (value / 2 ^ 16 % 2 ^ 16)) else Ignored)
 
 served_finisher : (u : Setup) (p : PlainState) (es : List Entry) (va w value : ℕ) (second : Walked) → ShowsRam p.ram (written u.image es) → is_uart va w ≡ false → is_finisher va w ≡ true
-    → Served u p es (does_at u p es va w value (reach Kind.Store va w (first_of u.layout.pages va) second)) (ended_by p (finished value))
+    → Served u p es (does_at u p es va w value (reach Kind.Store va w (first_of u.layout.pages va) second)) (Some (ended_by p (finished value)))
 served_finisher u p es va w value second shows no_uart finisher =
     go (value % 2 ^ 16 == 0x5555) (value % 2 ^ 16 == 0x3333) (finisher_reach u p es va w value second no_uart finisher)
   where
     go : (b c : Bool) → does_at u p es va w value (reach Kind.Store va w (first_of u.layout.pages va) second) ≡ device_done (1048576 - length p.console) va (Some (ending value b c))
-        → Served u p es (does_at u p es va w value (reach Kind.Store va w (first_of u.layout.pages va) second)) (ended_by p (ending value b c))
+        → Served u p es (does_at u p es va w value (reach Kind.Store va w (first_of u.layout.pages va) second)) (Some (ended_by p (ending value b c)))
     go true c e = record { entry = None; bytes = []; is_outcome = e; built = refl; console = refl; size = refl; ram = shows }
-    go false true e = ap is_outcome_built e
+    go false true e = record { entry = None; bytes = []; is_outcome = e; built = refl; console = refl; size = refl; ram = shows }
     go false false e = record { entry = None; bytes = []; is_outcome = e; built = refl; console = refl; size = refl; ram = shows }
 
 -- every other store isn't built
@@ -269,17 +269,17 @@ pub served_store : (u : Setup) (p : PlainState) (es : List Entry) (va w value : 
     → Served u p es (stored (written u.image es) (1048576 - length p.console) va w value (reach Kind.Store va w (reached u.layout.pages Kind.Store 0xcf (aligned 12 va) 0) second)) (store_effect p w va value)
 served_store u p es va w value second small size shows = by_word (is_in_word p.ram w va) refl
   where
-    by_finisher : (b : Bool) → is_in_word p.ram w va ≡ false → is_uart va w ≡ false → is_finisher va w ≡ b → Served u p es (does_at u p es va w value (reach Kind.Store va w (first_of u.layout.pages va) second)) (if b then ended_by p (finished value) else None)
+    by_finisher : (b : Bool) → is_in_word p.ram w va ≡ false → is_uart va w ≡ false → is_finisher va w ≡ b → Served u p es (does_at u p es va w value (reach Kind.Store va w (first_of u.layout.pages va) second)) (if b then Some (ended_by p (finished value)) else None)
     by_finisher true word uart e = served_finisher u p es va w value second shows uart e
     by_finisher false word uart e = no_store u p es va w value second small size word uart e
 
     by_uart : (b : Bool) → is_in_word p.ram w va ≡ false → is_uart va w ≡ b
-        → Served u p es (does_at u p es va w value (reach Kind.Store va w (first_of u.layout.pages va) second)) (if b then Some (if va == 0x10000000 then printed p (value % 256) else no_effect p) else (if is_finisher va w then ended_by p (finished value) else None))
+        → Served u p es (does_at u p es va w value (reach Kind.Store va w (first_of u.layout.pages va) second)) (if b then Some (if va == 0x10000000 then printed p (value % 256) else no_effect p) else (if is_finisher va w then Some (ended_by p (finished value)) else None))
     by_uart true word e = does_uart u p es va w value second shows e
     by_uart false word e = by_finisher (is_finisher va w) word e refl
 
     by_word : (b : Bool) → is_in_word p.ram w va ≡ b
         → Served u p es (does_at u p es va w value (reach Kind.Store va w (first_of u.layout.pages va) second)) (if b then Some (in_ram p w va value) else
-        (if is_uart va w then Some (if va == 0x10000000 then printed p (value % 256) else no_effect p) else (if is_finisher va w then ended_by p (finished value) else None)))
+        (if is_uart va w then Some (if va == 0x10000000 then printed p (value % 256) else no_effect p) else (if is_finisher va w then Some (ended_by p (finished value)) else None)))
     by_word true e = does_ram u p es va w value second size shows e
     by_word false e = by_uart (is_uart va w) e refl

@@ -4,7 +4,6 @@ use Rattle.rv64_decode.specs.declared.instruction.Instr.{Instr}
 use Rattle.rv64_exec.specs.Code.{Code}
 use Rattle.rv64_exec.specs.Built as instruction
 use Rattle.rv64_exec.specs.declared.needs.Answer.{Answer}
-use Rattle.ref_machine.specs.declared.reason.Reason.{Reason}
 use Rattle.ref_machine.specs.Memory.{Entry}
 use Rattle.ref_machine.specs.Event.{Outcome}
 use Rattle.ref_machine.specs.State.{Setup, State, memory}
@@ -29,13 +28,8 @@ is_entry_built (Some []) = true
 is_entry_built (Some (w ∷ [])) = true
 is_entry_built (Some (v ∷ w ∷ more)) = false
 
--- the guest doesn't say that it failed
-abbrev pub is_reason_built : Option Reason → Bool
-is_reason_built (Some (Reason.Fail code)) = false
-is_reason_built _ = true
-
 abbrev pub is_outcome_built : Outcome → Bool
-is_outcome_built did = is_answer_built did.answer && is_entry_built did.entry && is_reason_built did.reason
+is_outcome_built did = is_answer_built did.answer && is_entry_built did.entry
 
 -- the hart's next turn is built: it takes no interrupt, its fetch and its access don't trap, its instruction is built
 unfoldable pub is_built : Setup → State → (h : ℕ) → Code → Bool

@@ -76,16 +76,13 @@ printed p byte = record {
   reason = if has_room p.console then None else Some Reason.OutFull;
 }
 
-abbrev pub ended_by : PlainState → DeviceStore → Option Effect
-ended_by p (Ends (Reason.Fail code)) = None
-ended_by p (Ends reason) = Some (record { ram = p.ram; console = p.console; reason = Some reason })
-ended_by p _ = Some (no_effect p)
+-- the reason of a store to the finisher
+abbrev pub finisher_reason : DeviceStore → Option Reason
+finisher_reason (Ends reason) = Some reason
+finisher_reason _ = None
 
--- the reason of a store to the finisher, where it is built
-abbrev pub finisher_reason : DeviceStore → Option (Option Reason)
-finisher_reason (Ends (Reason.Fail code)) = None
-finisher_reason (Ends reason) = Some (Some reason)
-finisher_reason _ = Some None
+abbrev pub ended_by : PlainState → DeviceStore → Effect
+ended_by p store = record { ram = p.ram; console = p.console; reason = finisher_reason store }
 
 -- RAM has the words that the parts of a file give
 abbrev pub IsLoaded : List ℕ → List Part → (words : ℕ) → List ℕ → Type 0
@@ -103,7 +100,7 @@ abbrev pub store_effect : PlainState → (width va value : ℕ) → Option Effec
 store_effect p width va value =
     if is_in_word p.ram width va then Some (in_ram p width va value) else
     if is_uart va width then Some (if va == 0x10000000 then printed p (value % 256) else no_effect p) else
-    if is_finisher va width then ended_by p (finished value) else None
+    if is_finisher va width then Some (ended_by p (finished value)) else None
 
 abbrev pub effect_of_need : PlainState → Need → Option Effect
 effect_of_need p Need.Nothing = Some (no_effect p)

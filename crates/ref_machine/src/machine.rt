@@ -32,7 +32,7 @@ const UART: u64 = 0x1000_0000;
 
 const UART_LAST: u64 = 0x1000_0007;
 
-/// The finisher: a store of 0x5555 here ends the machine with a pass.
+/// The finisher: a store of 0x5555 here ends the machine with a pass, and one of 0x3333 with a fail.
 const FINISHER: u64 = 0x10_0000;
 
 /// A hart as a machine begins it: all registers and CSRs 0, supervisor mode, no translation.
@@ -93,14 +93,14 @@ fn load(alloc: Global, parts: &[Part], file: &[u8], words: usize) -> Result<Vec<
     Ok(ram)
 }
 
-/// What a store to the finisher does, where it is built: it may end the machine.
-fn finisher(value: u64) -> Option<Option<Reason>>
+/// What a store to the finisher ends the machine with, if it does.
+fn finisher(value: u64) -> Option<Reason>
     ensures { result ≡ plain.finisher_reason (finished value) }
 {
     match value % 0x1_0000 {
-        0x5555 => Some(Some(Reason::Pass)),
-        0x3333 => None,
-        _ => Some(None),
+        0x5555 => Some(Reason::Pass),
+        0x3333 => Some(Reason::Fail((value / 0x1_0000 % 0x1_0000) as u16)),
+        _ => None,
     }
 }
 
@@ -289,7 +289,7 @@ impl PlainMachine {
             });
         }
         if width == 4 && va == FINISHER {
-            return finisher(value);
+            return Some(finisher(value));
         }
         None
     }

@@ -1,6 +1,8 @@
 -- The machine's turns are one run, and what was written of it is the cause of the answer.
 use Rattle.std.proofs.Common.{inl, inr, ◌≡◌, refl, ℕ, ◌≤◌, ◌++◌, List, [], ◌∷◌, length, Some, None, Option, ap, sym, ◌∙◌, subst, ◌<◌, arith}
-use Rattle.std.specs.Prelude.{◌⊎◌, replicate, IfSome, IsTrue}
+use Rattle.std.specs.Prelude.{◌⊎◌, replicate, IfSome, IsTrue, Result, Ok, Err, Bool, false}
+use Rattle.elf_load.specs.declared.image.BadImage.{BadImage}
+use Rattle.elf_load.specs.Loaded.{Loaded}
 use Rattle.elf_load.specs.ImageOf.{is_built, image_of}
 use Rattle.ref_machine.specs.declared.reason.Reason.{Reason}
 use Rattle.ref_machine.specs.Event.{Event}
@@ -16,7 +18,7 @@ use Rattle.tlbvm.specs.Order.{order_of}
 use Rattle.tlbvm.specs.Report.{report_of}
 use Rattle.tlbvm.specs.Status.{status_for}
 use Rattle.tlbvm.specs.Call.{Files, Name, WereRead, IsTooLong, IsStarted, OneRun, CauseOf, Call, Gets, GetsNothing, GetsPart, HasEnded, IsCutShort, plain_setup}
-use Rattle.tlbvm.specs.Answers.{CauseOfStatus, IsComplete, IsFaultless, IsReady}
+use Rattle.tlbvm.specs.Answers.{CauseOfStatus, IsComplete, IsFaultless, IsReady, IsBadOnly, IsBadOrderOnly, IsCompleteImage, IsCompleteOrder, status_refused}
 
 append_nil : {A : Type 0} (xs : List A) → xs ++ [] ≡ xs
 append_nil [] = refl
@@ -66,23 +68,37 @@ not_long name told is_told within long =
     let over = subst (λ t. IfSome t (λ x. 67108864 < length x)) is_told long in
     absurd (omega (arith, over, within))
 
-no_cause : (call : Call) (r : Refusal) → IsFaultless call → IsReady call → CauseOf call.files r → (r ≡ Refusal.NoMemory)
-no_cause call Refusal.NoMemory f k cause = refl
-no_cause call Refusal.ReadFault f k (inl elf) = absurd (f.elf elf)
-no_cause call Refusal.ReadFault f k (inr order) = absurd (f.order order.1)
-no_cause call Refusal.TooLong f k (inl elf) = absurd (not_long call.files.elf k.file k.file_told k.file_within elf)
-no_cause call Refusal.TooLong f k (inr order) = absurd (not_long call.files.order k.text k.text_told k.text_within order.1)
-no_cause call Refusal.Unbuilt f k (inl elf) =
-    let same : elf.file ≡ k.file = told_one call.files.elf elf.file k.file k.file_told elf.were_read in
-    absurd (elf.refused (subst (λ x. IsTrue (is_built x)) (sym same) k.built) k.image (ap (λ x. image_of x 1024) same ∙ k.is_image))
-no_cause call Refusal.Unbuilt f k (inr order) =
-    let same : order.1.text ≡ k.text = told_one call.files.order order.1.text k.text k.text_told order.1.were_read in
-    let none : order_of k.text ≡ None = ap order_of (sym same) ∙ order.1.refused in
-    let some : order_of k.text ≡ Some k.turns = k.is_order in
-    absurd (none_some (order_of k.text) k.turns none some)
-  where
-    none_some : (o : Option ℕ) (n : ℕ) → o ≡ None → o ≡ Some n → ⊥
-    none_some o n e f = cc
+none_some : {A : Type 0} (o : Option A) (x : A) → o ≡ None → o ≡ Some x → ⊥
+none_some o x e f = cc
+
+ok_err : {A E : Type 0} (r : Result A E) (x : A) (e : E) → r ≡ Ok x → r ≡ Err e → ⊥
+ok_err r x e f g = cc
+
+true_false : (b : Bool) → IsTrue b → b ≡ false → ⊥
+true_false b e f = cc
+
+-- what a call came to: a refusal, a machine's end, or a sink that failed
+abbrev Origin : Status → Call → Type 0
+Origin status call = ((r : Refusal) × (status ≡ status_refused r) × CauseOf call.files r)
+    ⊎ (((reason : Option Reason) × (status ≡ status_for reason) × HasEnded reason call) ⊎ IsCutShort call)
+
+origin : (call : Call) (status : Status) → CauseOfStatus status call → Origin status call
+origin call Status.Usage cause = absurd cause
+origin call Status.ReadFault cause = inl (Refusal.ReadFault, refl, cause.cause)
+origin call Status.TooLong cause = inl (Refusal.TooLong, refl, cause.cause)
+origin call (Status.BadImage kind) cause = inl (Refusal.BadImage kind, refl, cause.cause)
+origin call (Status.BadOrder line) cause = inl (Refusal.BadOrder line, refl, cause.cause)
+origin call Status.NoMemory cause = inl (Refusal.NoMemory, refl, cause.cause)
+origin call Status.Unbuilt (inl cause) = inl (Refusal.Unbuilt, refl, cause.cause)
+origin call Status.Unbuilt (inr e) = inr (inl (Some Reason.Unbuilt, refl, e))
+origin call Status.WriteFault cut = inr (inr cut)
+origin call Status.Done e = inr (inl (Some Reason.Pass, refl, e))
+origin call Status.OrderEnd e = inr (inl (None, refl, e))
+origin call (Status.GuestFailed code) e = inr (inl (Some (Reason.Fail code), refl, e))
+origin call (Status.Limit hart) e = inr (inl (Some (Reason.Limit hart), refl, e))
+origin call Status.OutFull e = inr (inl (Some Reason.OutFull, refl, e))
+origin call Status.AllStopped e = inr (inl (Some Reason.AllStopped, refl, e))
+origin call Status.Stopped e = inr (inl (Some Reason.Stopped, refl, e))
 
 cut_none : (call : Call) → IsFaultless call → IsCutShort call → ⊥
 cut_none call f cut = go cut.cut
@@ -91,18 +107,89 @@ cut_none call f cut = go cut.cut
     go (inl out) = f.out_took out.0.failed
     go (inr log) = f.log_took log.1.failed
 
+no_cause : (call : Call) (r : Refusal) → IsFaultless call → IsReady call → CauseOf call.files r → (r ≡ Refusal.NoMemory)
+no_cause call Refusal.NoMemory f k cause = refl
+no_cause call Refusal.ReadFault f k (inl elf) = absurd (f.elf elf)
+no_cause call Refusal.ReadFault f k (inr order) = absurd (f.order order.1)
+no_cause call Refusal.TooLong f k (inl elf) = absurd (not_long call.files.elf k.file k.file_told k.file_within elf)
+no_cause call Refusal.TooLong f k (inr order) = absurd (not_long call.files.order k.text k.text_told k.text_within order.1)
+no_cause call (Refusal.BadImage kind) f k bad =
+    let same : bad.file ≡ k.file = told_one call.files.elf bad.file k.file k.file_told bad.were_read in
+    absurd (ok_err (image_of k.file 1024) k.image kind k.is_image (ap (λ x. image_of x 1024) (sym same) ∙ bad.refused))
+no_cause call (Refusal.BadOrder line) f k bad =
+    let same : bad.1.text ≡ k.text = told_one call.files.order bad.1.text k.text k.text_told bad.1.were_read in
+    absurd (none_some (order_of k.text) k.turns (ap order_of (sym same) ∙ bad.1.refused) k.is_order)
+no_cause call Refusal.Unbuilt f k elf =
+    let same : elf.file ≡ k.file = told_one call.files.elf elf.file k.file k.file_told elf.were_read in
+    absurd (true_false (is_built k.file) k.built (ap is_built (sym same) ∙ elf.unbuilt))
+
 pub complete : (call : Call) (status : Status) → CauseOfStatus status call → IsComplete status call
-complete call Status.Usage cause f k = absurd cause
-complete call Status.ReadFault cause f k = let e = no_cause call Refusal.ReadFault f k cause.cause in cc
-complete call Status.TooLong cause f k = let e = no_cause call Refusal.TooLong f k cause.cause in cc
-complete call Status.NoMemory cause f k = inl refl
-complete call Status.Unbuilt (inl cause) f k = let e = no_cause call Refusal.Unbuilt f k cause.cause in cc
-complete call Status.Unbuilt (inr e) f k = inr (Some Reason.Unbuilt, refl, e)
-complete call Status.WriteFault cause f k = absurd (cut_none call f cause)
-complete call Status.Done e f k = inr (Some Reason.Pass, refl, e)
-complete call Status.OrderEnd e f k = inr (None, refl, e)
-complete call (Status.GuestFailed code) e f k = inr (Some (Reason.Fail code), refl, e)
-complete call (Status.Limit hart) e f k = inr (Some (Reason.Limit hart), refl, e)
-complete call Status.OutFull e f k = inr (Some Reason.OutFull, refl, e)
-complete call Status.AllStopped e f k = inr (Some Reason.AllStopped, refl, e)
-complete call Status.Stopped e f k = inr (Some Reason.Stopped, refl, e)
+complete call status cause f k = go (origin call status cause)
+  where
+    go : Origin status call → (status ≡ Status.NoMemory) ⊎ ((reason : Option Reason) × (status ≡ status_for reason) × HasEnded reason call)
+    go (inl (r, is, why)) = inl (is ∙ ap status_refused (no_cause call r f k why))
+    go (inr (inl end)) = inr end
+    go (inr (inr cut)) = absurd (cut_none call f cut)
+
+-- a file that is no image leads to no machine
+bad_accepted : (call : Call) (kind : BadImage) (b : IsBadOnly call kind) (file : List ℕ) (image : Loaded) → WereRead call.files.elf file → image_of file 1024 ≡ Ok image → ⊥
+bad_accepted call kind b file image read ok =
+    let same : file ≡ b.file = told_one call.files.elf file b.file b.told read in
+    ok_err (image_of b.file 1024) image kind (ap (λ x. image_of x 1024) (sym same) ∙ ok) b.refused
+
+bad_cause : (call : Call) (kind : BadImage) (r : Refusal) → IsBadOnly call kind → CauseOf call.files r → (status_refused r ≡ Status.NoMemory) ⊎ (status_refused r ≡ Status.BadImage kind)
+bad_cause call kind Refusal.NoMemory b cause = inl refl
+bad_cause call kind Refusal.ReadFault b (inl elf) = absurd (b.no_fault elf)
+bad_cause call kind Refusal.ReadFault b (inr order) = absurd (bad_accepted call kind b order.0.file order.0.image order.0.were_read order.0.is_image)
+bad_cause call kind Refusal.TooLong b (inl elf) = absurd (not_long call.files.elf b.file b.told b.within elf)
+bad_cause call kind Refusal.TooLong b (inr order) = absurd (bad_accepted call kind b order.0.file order.0.image order.0.were_read order.0.is_image)
+bad_cause call kind (Refusal.BadOrder line) b bad = absurd (bad_accepted call kind b bad.0.file bad.0.image bad.0.were_read bad.0.is_image)
+bad_cause call kind (Refusal.BadImage other) b bad =
+    let same : bad.file ≡ b.file = told_one call.files.elf bad.file b.file b.told bad.were_read in
+    let both : image_of b.file 1024 ≡ Err other = ap (λ x. image_of x 1024) (sym same) ∙ bad.refused in
+    inr (one_kind (image_of b.file 1024) other kind both b.refused)
+  where
+    one_kind : (r : Result Loaded BadImage) (x y : BadImage) → r ≡ Err x → r ≡ Err y → Status.BadImage x ≡ Status.BadImage y
+    one_kind r x y e f = cc
+bad_cause call kind Refusal.Unbuilt b elf =
+    let same : elf.file ≡ b.file = told_one call.files.elf elf.file b.file b.told elf.were_read in
+    absurd (true_false (is_built b.file) b.built (ap is_built (sym same) ∙ elf.unbuilt))
+
+pub complete_image : (call : Call) (status : Status) → CauseOfStatus status call → IsCompleteImage status call
+complete_image call status cause kind b = go (origin call status cause)
+  where
+    ran : (reason : Option Reason) (output : List ℕ) → OneRun call.files reason output → ⊥
+    ran reason output run = bad_accepted call kind b run.file run.image run.file_read run.is_image
+
+    go : Origin status call → (status ≡ Status.NoMemory) ⊎ (status ≡ Status.BadImage kind)
+    go (inl (r, is, why)) = subst (λ s. (s ≡ Status.NoMemory) ⊎ (s ≡ Status.BadImage kind)) (sym is) (bad_cause call kind r b why)
+    go (inr (inl (reason, is, end))) = absurd (ran reason end.output end.one_run)
+    go (inr (inr cut)) = absurd (ran cut.reason cut.output cut.one_run)
+
+-- an order that is none leads to no machine
+order_read : (call : Call) (b : IsBadOrderOnly call) (text : List ℕ) (turns : ℕ) → WereRead call.files.order text → order_of text ≡ Some turns → ⊥
+order_read call b text turns read some =
+    let same : text ≡ b.text = told_one call.files.order text b.text b.text_told read in
+    none_some (order_of b.text) turns b.refused (ap order_of (sym same) ∙ some)
+
+order_cause : (call : Call) (r : Refusal) → IsBadOrderOnly call → CauseOf call.files r → (status_refused r ≡ Status.NoMemory) ⊎ (status_refused r ≡ Status.BadOrder 1)
+order_cause call Refusal.NoMemory b cause = inl refl
+order_cause call Refusal.ReadFault b (inl elf) = absurd (b.no_elf_fault elf)
+order_cause call Refusal.ReadFault b (inr order) = absurd (b.no_order_fault order.1)
+order_cause call Refusal.TooLong b (inl elf) = absurd (not_long call.files.elf b.file b.file_told b.file_within elf)
+order_cause call Refusal.TooLong b (inr order) = absurd (not_long call.files.order b.text b.text_told b.text_within order.1)
+order_cause call (Refusal.BadOrder line) b bad = inr (ap Status.BadOrder bad.1.first)
+order_cause call (Refusal.BadImage kind) b bad =
+    let same : bad.file ≡ b.file = told_one call.files.elf bad.file b.file b.file_told bad.were_read in
+    absurd (ok_err (image_of b.file 1024) b.image kind b.is_image (ap (λ x. image_of x 1024) (sym same) ∙ bad.refused))
+order_cause call Refusal.Unbuilt b elf =
+    let same : elf.file ≡ b.file = told_one call.files.elf elf.file b.file b.file_told elf.were_read in
+    absurd (true_false (is_built b.file) b.built (ap is_built (sym same) ∙ elf.unbuilt))
+
+pub complete_order : (call : Call) (status : Status) → CauseOfStatus status call → IsCompleteOrder status call
+complete_order call status cause b = go (origin call status cause)
+  where
+    go : Origin status call → (status ≡ Status.NoMemory) ⊎ (status ≡ Status.BadOrder 1)
+    go (inl (r, is, why)) = subst (λ s. (s ≡ Status.NoMemory) ⊎ (s ≡ Status.BadOrder 1)) (sym is) (order_cause call r b why)
+    go (inr (inl (reason, is, end))) = absurd (order_read call b end.one_run.text end.one_run.turns end.one_run.text_read end.one_run.is_order)
+    go (inr (inr cut)) = absurd (order_read call b cut.one_run.text cut.one_run.turns cut.one_run.text_read cut.one_run.is_order)

@@ -1,7 +1,8 @@
 -- Each answer of a call, with its cause.
-use Rattle.std.specs.Prelude.{◌≡◌, ◌⊎◌, ℕ, ◌≤◌, Bool, true, false, List, length, Option, Some, None, IfSome, IsTrue, Ok}
+use Rattle.std.specs.Prelude.{◌≡◌, ◌⊎◌, ℕ, ◌≤◌, Bool, true, false, List, length, Option, Some, None, IfSome, IsTrue, Ok, Err}
 use Rattle.vm_io.specs.Faults.{Rose}
 use Rattle.elf_load.specs.Loaded.{Loaded}
+use Rattle.elf_load.specs.declared.image.BadImage.{BadImage}
 use Rattle.elf_load.specs.ImageOf.{image_of, is_built}
 use Rattle.ref_machine.specs.declared.reason.Reason.{Reason}
 use Rattle.tlbvm.specs.declared.start.Refusal.{Refusal}
@@ -18,6 +19,8 @@ OnLine calls words P = IfSome (line_of words) (λ line. P (calls line))
 abbrev pub status_refused : Refusal → Status
 status_refused Refusal.ReadFault = Status.ReadFault
 status_refused Refusal.TooLong = Status.TooLong
+status_refused (Refusal.BadImage kind) = Status.BadImage kind
+status_refused (Refusal.BadOrder line) = Status.BadOrder line
 status_refused Refusal.NoMemory = Status.NoMemory
 status_refused Refusal.Unbuilt = Status.Unbuilt
 
@@ -26,6 +29,8 @@ abbrev pub CauseOfStatus : Status → Call → Type 0
 CauseOfStatus Status.Usage call = ⊥
 CauseOfStatus Status.ReadFault call = IsRefused Refusal.ReadFault call
 CauseOfStatus Status.TooLong call = IsRefused Refusal.TooLong call
+CauseOfStatus (Status.BadImage kind) call = IsRefused (Refusal.BadImage kind) call
+CauseOfStatus (Status.BadOrder line) call = IsRefused (Refusal.BadOrder line) call
 CauseOfStatus Status.NoMemory call = IsRefused Refusal.NoMemory call
 CauseOfStatus Status.Unbuilt call = IsRefused Refusal.Unbuilt call ⊎ HasEnded (Some Reason.Unbuilt) call
 CauseOfStatus Status.WriteFault call = IsCutShort call
@@ -42,6 +47,8 @@ abbrev pub is_end : Status → Bool
 is_end Status.Usage = false
 is_end Status.ReadFault = false
 is_end Status.TooLong = false
+is_end (Status.BadImage kind) = false
+is_end (Status.BadOrder line) = false
 is_end Status.NoMemory = false
 is_end Status.Unbuilt = false
 is_end _ = true
@@ -50,6 +57,19 @@ is_end _ = true
 -- reference machine. `out` got that run's output and `log` its report, or a prefix where a sink failed.
 abbrev pub IsOneRun : Call → Type 0
 IsOneRun call = ((reason : Option Reason) × HasEnded reason call) ⊎ IsCutShort call
+
+-- no read of the ELF file failed, and its bytes are told, within the limit, of a built form, and no image
+pub record IsBadOnly (call : Call) (kind : BadImage) : Type 0 where
+  pub no_fault : HasFailed call.files.elf → ⊥
+  pub file : List ℕ
+  pub told : call.files.elf.told ≡ Some file
+  pub within : length file ≤ 67108864
+  pub built : IsTrue (is_built file)
+  pub refused : image_of file 1024 ≡ Err kind
+
+-- then the answer is this, or there was no memory
+abbrev pub IsCompleteImage : Status → Call → Type 0
+IsCompleteImage status call = (kind : BadImage) → IsBadOnly call kind → (status ≡ Status.NoMemory) ⊎ (status ≡ Status.BadImage kind)
 
 -- no read of the two names failed in the call, and no sink
 pub record IsFaultless (call : Call) : Type 0 where
@@ -71,6 +91,26 @@ pub record IsReady (call : Call) : Type 0 where
   pub is_image : image_of file 1024 ≡ Ok image
   pub turns : ℕ
   pub is_order : order_of text ≡ Some turns
+
+-- no read of the two names failed, the bytes of both are told and within the limit, the file is accepted and built, and the
+-- order is none
+pub record IsBadOrderOnly (call : Call) : Type 0 where
+  pub no_elf_fault : HasFailed call.files.elf → ⊥
+  pub no_order_fault : HasFailed call.files.order → ⊥
+  pub file : List ℕ
+  pub text : List ℕ
+  pub file_told : call.files.elf.told ≡ Some file
+  pub text_told : call.files.order.told ≡ Some text
+  pub file_within : length file ≤ 67108864
+  pub text_within : length text ≤ 67108864
+  pub image : Loaded
+  pub built : IsTrue (is_built file)
+  pub is_image : image_of file 1024 ≡ Ok image
+  pub refused : order_of text ≡ None
+
+-- then the answer is this, or there was no memory
+abbrev pub IsCompleteOrder : Status → Call → Type 0
+IsCompleteOrder status call = IsBadOrderOnly call → (status ≡ Status.NoMemory) ⊎ (status ≡ Status.BadOrder 1)
 
 -- then the machine runs to its end, and the answer is its first reason's, or there was no memory
 abbrev pub IsComplete : Status → Call → Type 0

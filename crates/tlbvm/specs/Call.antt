@@ -1,8 +1,9 @@
 -- What a call on a `plain` line read, what it ran, what it wrote, and the cause of each answer.
-use Rattle.std.specs.Prelude.{◌≡◌, ◌≢◌, ◌⊎◌, ℕ, ◌<◌, ◌≤◌, List, length, take, replicate, Option, Some, None, IfSome, IsTrue, Ok}
+use Rattle.std.specs.Prelude.{◌≡◌, ◌⊎◌, ℕ, false, ◌<◌, ◌≤◌, List, length, take, replicate, Option, Some, None, IfSome, IsTrue, Ok, Err}
 use Rattle.std.specs.Io.KnownBytes.{Appends}
 use Rattle.vm_io.specs.Faults.{Rose}
 use Rattle.elf_load.specs.Loaded.{Loaded}
+use Rattle.elf_load.specs.declared.image.BadImage.{BadImage}
 use Rattle.elf_load.specs.ImageOf.{image_of, is_built}
 use Rattle.step_laws.specs.declared.words.Layout.{Layout}
 use Rattle.ref_machine.specs.declared.reason.Reason.{Reason}
@@ -63,21 +64,32 @@ pub record IsAccepted (elf : Name) : Type 0 where
   pub built : IsTrue (is_built file)
   pub is_image : image_of file 1024 ≡ Ok image
 
+-- the first check that the ELF file fails
+pub record IsBadFile (elf : Name) (kind : BadImage) : Type 0 where
+  pub file : List ℕ
+  pub were_read : WereRead elf file
+  pub built : IsTrue (is_built file)
+  pub refused : image_of file 1024 ≡ Err kind
+
 pub record IsUnbuiltFile (elf : Name) : Type 0 where
   pub file : List ℕ
   pub were_read : WereRead elf file
-  pub refused : IsTrue (is_built file) → (image : Loaded) → image_of file 1024 ≢ Ok image
+  pub unbuilt : is_built file ≡ false
 
-pub record IsUnbuiltOrder (order : Name) : Type 0 where
+-- the order has one line, which is bad
+pub record IsBadOrder (order : Name) (line : ℕ) : Type 0 where
   pub text : List ℕ
   pub were_read : WereRead order text
   pub refused : order_of text ≡ None
+  pub first : line ≡ 1
 
 -- why a call was refused before the machine's start: the ELF file is read and checked first, then the order
 abbrev pub CauseOf : Files → Refusal → Type 0
 CauseOf files Refusal.ReadFault = HasFailed files.elf ⊎ (IsAccepted files.elf × HasFailed files.order)
 CauseOf files Refusal.TooLong = IsTooLong files.elf ⊎ (IsAccepted files.elf × IsTooLong files.order)
-CauseOf files Refusal.Unbuilt = IsUnbuiltFile files.elf ⊎ (IsAccepted files.elf × IsUnbuiltOrder files.order)
+CauseOf files (Refusal.BadImage kind) = IsBadFile files.elf kind
+CauseOf files (Refusal.BadOrder line) = IsAccepted files.elf × IsBadOrder files.order line
+CauseOf files Refusal.Unbuilt = IsUnbuiltFile files.elf
 CauseOf files Refusal.NoMemory = Unit {0}
 
 -- THE MACHINE

@@ -1,5 +1,6 @@
 -- The exit codes and lines of the statuses, and the status of a machine that has ended.
 use Rattle.std.specs.Prelude.{ℕ, List, ◌++◌, Option, Some, None, codes, decimal}
+use Rattle.elf_load.specs.declared.image.BadImage.{BadImage}
 use Rattle.ref_machine.specs.declared.reason.Reason.{Reason}
 use Rattle.tlbvm.specs.declared.status.Status.{Status}
 
@@ -8,6 +9,8 @@ exit_code_of Status.Done = 0
 exit_code_of Status.Usage = 2
 exit_code_of Status.ReadFault = 3
 exit_code_of Status.TooLong = 4
+exit_code_of (Status.BadImage kind) = 5
+exit_code_of (Status.BadOrder line) = 6
 exit_code_of Status.WriteFault = 9
 exit_code_of Status.NoMemory = 10
 exit_code_of (Status.GuestFailed code) = 11
@@ -18,11 +21,24 @@ exit_code_of Status.OrderEnd = 15
 exit_code_of Status.Stopped = 16
 exit_code_of Status.Unbuilt = 17
 
+-- the checks of an ELF file are numbered in their order
+abbrev pub kind_number : BadImage → ℕ
+kind_number BadImage.Short = 1
+kind_number BadImage.NotElf = 2
+kind_number BadImage.NotRv64 = 3
+kind_number BadImage.NotExec = 4
+kind_number BadImage.Compressed = 5
+kind_number BadImage.SegmentOutside = 6
+kind_number BadImage.Overlap = 7
+kind_number BadImage.EntryOutside = 8
+
 abbrev pub status_text : Status → List ℕ
 status_text Status.Done = codes "done"
 status_text Status.Usage = codes "usage: tlbvm plain, sched, run, churn, asm, dis or gen"
 status_text Status.ReadFault = codes "read failed"
 status_text Status.TooLong = codes "file too long"
+status_text (Status.BadImage kind) = codes "bad image: kind " ++ decimal (kind_number kind)
+status_text (Status.BadOrder line) = codes "bad order: line " ++ decimal line
 status_text Status.WriteFault = codes "write failed"
 status_text Status.NoMemory = codes "out of memory"
 status_text (Status.GuestFailed code) = codes "guest failed: " ++ decimal code

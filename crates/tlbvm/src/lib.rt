@@ -10,5 +10,6 @@ mod start;
 mod status;
 mod top;
 
+pub use elf_load::BadImage;
 pub use status::{Status, code, status_line};
 pub use top::tlbvm_still;

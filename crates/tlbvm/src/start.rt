@@ -5,7 +5,7 @@ ghost use Rattle.tlbvm.specs.Call.{CauseOf, IsStarted, files_of};
 
 use crate::line::PlainLine;
 use crate::order::read_order;
-use elf_load::{ImageErr, parse};
+use elf_load::{BadImage, ImageErr, parse};
 use ref_machine::PlainMachine;
 use std::alloc::Global;
 use step_laws::Layout;
@@ -25,6 +25,9 @@ const LIMIT: u64 = 50_000_000;
 pub(crate) enum Refusal {
     ReadFault,
     TooLong,
+    BadImage(BadImage),
+    /// The number of the order's first bad line.
+    BadOrder(u64),
     NoMemory,
     Unbuilt,
 }
@@ -49,7 +52,7 @@ pub(crate) fn start<F: Images>(
     let image = parse(alloc, file.as_slice(), LAYOUT.pages)?;
     let text = read_all(alloc, images, line.order)?;
     let Some(turns) = read_order(text.as_slice()) else {
-        return Err(Refusal::Unbuilt);
+        return Err(Refusal::BadOrder(1));
     };
     let machine = PlainMachine::new(alloc, &image, file.as_slice(), LAYOUT, LIMIT)?;
     Ok(Job { machine, turns })
@@ -76,6 +79,7 @@ impl From<ImageErr> for Refusal {
 
     fn from(e: ImageErr) -> Refusal {
         match e {
+            ImageErr::Bad(kind) => Refusal::BadImage(kind),
             ImageErr::Unbuilt => Refusal::Unbuilt,
             ImageErr::NoMemory => Refusal::NoMemory,
         }

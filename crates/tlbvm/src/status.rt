@@ -1,11 +1,12 @@
 // How a call ended: its exit code and its line.
 ghost use Rattle.std.specs.Prelude.{◌≡◌};
-ghost use Rattle.tlbvm.specs.Status.{exit_code_of, status_text};
+ghost use Rattle.tlbvm.specs.Status.{exit_code_of, kind_number, status_text};
 
 use arrayvec::ArrayString;
+use elf_load::BadImage;
 use itoa::Buffer;
 
-/// How a call ended. Of these only `Done`, `OrderEnd` and `Unbuilt` are ends of a machine yet.
+/// How a call ended. Of these only `Done`, `GuestFailed`, `OrderEnd` and `Unbuilt` are ends of a machine yet.
 #[derive(Clone, Copy, Debug, PartialEq, Eq)]
 pub enum Status {
     /// The guest said that it passed.
@@ -16,6 +17,10 @@ pub enum Status {
     ReadFault,
     /// A file is longer than 67,108,864 bytes.
     TooLong,
+    /// The ELF file is no image, by this check.
+    BadImage(BadImage),
+    /// The order is none, by its line of this number, from 1.
+    BadOrder(u64),
     /// `out` or `log` took no more.
     WriteFault,
     /// There was no memory for the files or the machine; no turn was taken.
@@ -32,7 +37,7 @@ pub enum Status {
     OrderEnd,
     /// The script stopped the machine.
     Stopped,
-    /// The file, the order or what the guest came to isn't built yet.
+    /// The file or what the guest came to isn't built yet.
     Unbuilt,
 }
 
@@ -45,6 +50,8 @@ pub fn code(status: &Status) -> u8
         Status::Usage => 2,
         Status::ReadFault => 3,
         Status::TooLong => 4,
+        Status::BadImage(_) => 5,
+        Status::BadOrder(_) => 6,
         Status::WriteFault => 9,
         Status::NoMemory => 10,
         Status::GuestFailed(_) => 11,
@@ -54,6 +61,22 @@ pub fn code(status: &Status) -> u8
         Status::OrderEnd => 15,
         Status::Stopped => 16,
         Status::Unbuilt => 17,
+    }
+}
+
+/// The number that a status line gives to a check of an ELF file: from 1, in the order of the first such checks.
+fn kind_number(kind: BadImage) -> u8
+    ensures { result ≡ kind_number kind }
+{
+    match kind {
+        BadImage::Short => 1,
+        BadImage::NotElf => 2,
+        BadImage::NotRv64 => 3,
+        BadImage::NotExec => 4,
+        BadImage::Compressed => 5,
+        BadImage::SegmentOutside => 6,
+        BadImage::Overlap => 7,
+        BadImage::EntryOutside => 8,
     }
 }
 
@@ -67,6 +90,14 @@ pub fn status_line(status: &Status) -> ArrayString<96>
         Status::Usage => line.push_str("usage: tlbvm plain, sched, run, churn, asm, dis or gen"),
         Status::ReadFault => line.push_str("read failed"),
         Status::TooLong => line.push_str("file too long"),
+        Status::BadImage(kind) => {
+            line.push_str("bad image: kind ");
+            line.push_str(Buffer::new().format(kind_number(*kind)));
+        }
+        Status::BadOrder(bad) => {
+            line.push_str("bad order: line ");
+            line.push_str(Buffer::new().format(*bad));
+        }
         Status::WriteFault => line.push_str("write failed"),
         Status::NoMemory => line.push_str("out of memory"),
         Status::GuestFailed(code) => {

@@ -1,10 +1,11 @@
 // The top call.
 ghost use Rattle.std.specs.Prelude.{◌≡◌, ◌⊎◌, ◌↔◌, ℕ, Option, None, Some, IsTrue, map, string_bytes};
+ghost use Rattle.elf_load.specs.declared.image.BadImage.{BadImage as TheBadImage};
 ghost use Rattle.ref_machine.specs.declared.reason.Reason.{Reason as TheReason};
 ghost use Rattle.tlbvm.specs.Line.{line_of};
 ghost use Rattle.tlbvm.specs.Status.{status_for};
 ghost use Rattle.tlbvm.specs.Call.{call_of, written_of, GetsNothing, IsRefused, HasEnded, IsCutShort};
-ghost use Rattle.tlbvm.specs.Answers.{CauseOfStatus, IsComplete, IsOneRun, OnLine, is_end, status_refused};
+ghost use Rattle.tlbvm.specs.Answers.{CauseOfStatus, IsComplete, IsCompleteImage, IsCompleteOrder, IsOneRun, OnLine, is_end, status_refused};
 ghost use Rattle.tlbvm.specs.declared.start.Refusal.{Refusal as TheRefusal};
 
 use crate::ending::{take_turns, write_end};
@@ -36,6 +37,8 @@ fn status_refused(refusal: Refusal) -> Status
     match refusal {
         Refusal::ReadFault => Status::ReadFault,
         Refusal::TooLong => Status::TooLong,
+        Refusal::BadImage(kind) => Status::BadImage(kind),
+        Refusal::BadOrder(line) => Status::BadOrder(line),
         Refusal::NoMemory => Status::NoMemory,
         Refusal::Unbuilt => Status::Unbuilt,
     }
@@ -92,6 +95,12 @@ pub fn tlbvm_still<F: Images, O: Sink, L: Sink>(
     ensures too_long { result ≡ Status.TooLong → OnLine
         (call_of F.told F.faults O.taken O.faults L.taken L.faults images.old images.new out.old out.new log.old log.new) (map string_bytes words.now)
         (IsRefused TheRefusal.TooLong) }
+    ensures bad_image { (kind : TheBadImage) → result ≡ Status.BadImage kind → OnLine
+        (call_of F.told F.faults O.taken O.faults L.taken L.faults images.old images.new out.old out.new log.old log.new) (map string_bytes words.now)
+        (IsRefused (TheRefusal.BadImage kind)) }
+    ensures bad_order { (line : ℕ) → result ≡ Status.BadOrder line → OnLine
+        (call_of F.told F.faults O.taken O.faults L.taken L.faults images.old images.new out.old out.new log.old log.new) (map string_bytes words.now)
+        (IsRefused (TheRefusal.BadOrder line)) }
     ensures no_memory { result ≡ Status.NoMemory → OnLine
         (call_of F.told F.faults O.taken O.faults L.taken L.faults images.old images.new out.old out.new log.old log.new) (map string_bytes words.now)
         (IsRefused TheRefusal.NoMemory) }
@@ -128,6 +137,14 @@ pub fn tlbvm_still<F: Images, O: Sink, L: Sink>(
     ensures write_fault { result ≡ Status.WriteFault → OnLine
         (call_of F.told F.faults O.taken O.faults L.taken L.faults images.old images.new out.old out.new log.old log.new) (map string_bytes words.now)
         IsCutShort }
+
+    // A file without faults that isn't accepted is refused for its own fault, and so is an order; or there was no memory.
+    ensures complete_image { OnLine
+        (call_of F.told F.faults O.taken O.faults L.taken L.faults images.old images.new out.old out.new log.old log.new) (map string_bytes words.now)
+        (IsCompleteImage result) }
+    ensures complete_order { OnLine
+        (call_of F.told F.faults O.taken O.faults L.taken L.faults images.old images.new out.old out.new log.old log.new) (map string_bytes words.now)
+        (IsCompleteOrder result) }
 
     // Files without faults that are accepted, and sinks that take all, lead to the machine's end or want of memory.
     ensures complete { OnLine
