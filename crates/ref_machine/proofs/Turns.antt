@@ -27,14 +27,14 @@ use Rattle.ref_machine.specs.Change as change
 use Rattle.ref_machine.specs.Change.{state_after, executed, first_reason}
 use Rattle.ref_machine.specs.Run.{is_leaf_end}
 use Rattle.ref_machine.specs.Now.{IsCode, IsNext, is_pending, fetch_end, fetch_now, exec_now, outcome_now}
-use Rattle.ref_machine.specs.Built.{is_built, is_instr_built, is_outcome_built}
+use Rattle.ref_machine.specs.Built.{is_built, is_instr_built, is_need_built, is_answer_built, is_exec_built}
 use Rattle.ref_machine.specs.Lawful.{flushing}
 use Rattle.ref_machine.specs.Plain.{plain_turn, turn_in, running_turn, taken_turn, instruction, executing, with_stops, flush_events, states_after, after_turn}
 use Rattle.ref_machine.specs.PlainState.{PlainState, Effect, index, is_in, next_word, effect_of_need, limited, retired, unbuilt, after_effect, after_word, IsTurnIn}
 use Rattle.ref_machine.specs.Shows.{first_hart, other_harts, shown, ShowsRam, Shows, Turned}
 use Rattle.ref_machine.proofs.Plainly.{fetched_leaf}
 use Rattle.ref_machine.proofs.Bare.{bare_walk, page_and_place, ram_page}
-use Rattle.ref_machine.proofs.Served.{outcome, Served, served_store}
+use Rattle.ref_machine.proofs.Served.{outcome, Served, served_load, served_store}
 
 -- the hart fetches
 fetch_state : (u : Setup) (p : PlainState) (es : List Entry) (sc : List Command) (code : Code) → is_leaf_end (fetch_end u (shown p None es sc) 0) ≡ true
@@ -56,24 +56,24 @@ behind p code o es sc limit = record {
 abbrev limit_reason : Bool → Option Reason
 limit_reason c = if c then Some (Reason.Limit 0) else None
 
-exec_by : (p : PlainState) (es : List Entry) (sc : List Command) (code : Code) (a b : Walked) (en : Option Entry) (bs : List ℕ) (re : Option Reason) (c : Bool)
-    → states_after ((((if c then Stop 0 (Reason.Limit 0) ∷ [] else []) ++ []) ++ Exec 0 a b (outcome en bs re) ∷ []) ++ []) (shown p (Some code) es sc)
-    ≡ behind p code (outcome en bs re) es sc (limit_reason c)
-exec_by p es sc code a b en bs re true = refl
-exec_by p es sc code a b en bs re false = refl
+exec_by : (p : PlainState) (es : List Entry) (sc : List Command) (code : Code) (a b : Walked) (ans : Answer) (en : Option Entry) (bs : List ℕ) (re : Option Reason) (c : Bool)
+    → states_after ((((if c then Stop 0 (Reason.Limit 0) ∷ [] else []) ++ []) ++ Exec 0 a b (outcome ans en bs re) ∷ []) ++ []) (shown p (Some code) es sc)
+    ≡ behind p code (outcome ans en bs re) es sc (limit_reason c)
+exec_by p es sc code a b ans en bs re true = refl
+exec_by p es sc code a b ans en bs re false = refl
 
-exec_state : (u : Setup) (p : PlainState) (es : List Entry) (sc : List Command) (code : Code) (en : Option Entry) (bs : List ℕ) (re : Option Reason)
+exec_state : (u : Setup) (p : PlainState) (es : List Entry) (sc : List Command) (code : Code) (ans : Answer) (en : Option Entry) (bs : List ℕ) (re : Option Reason)
     → flushing u (shown p (Some code) es sc) 0 (need (shown p (Some code) es sc) 0) ≡ None
-    → outcome_now u (shown p (Some code) es sc) 0 ≡ outcome en bs re
-    → states_after (executing u (shown p (Some code) es sc) 0) (shown p (Some code) es sc) ≡ behind p code (outcome en bs re) es sc (limit_reason (p.count + 1 == u.limit))
+    → outcome_now u (shown p (Some code) es sc) 0 ≡ outcome ans en bs re
+    → states_after (executing u (shown p (Some code) es sc) 0) (shown p (Some code) es sc) ≡ behind p code (outcome ans en bs re) es sc (limit_reason (p.count + 1 == u.limit))
 unfolding executing exec_now executed
-exec_state u p es sc code en bs re none right =
+exec_state u p es sc code ans en bs re none right =
     let s = shown p (Some code) es sc in
     let a = first_now u s 0 (access_of (need s 0)) in
     let b = second_now u s 0 (access_of (need s 0)) in
     ap (λ f. states_after (with_stops u s 0 (Exec 0 a b (outcome_now u s 0)) ++ flush_events f) s) none
     ∙ ap (λ o. states_after (with_stops u s 0 (Exec 0 a b o) ++ []) s) right
-    ∙ exec_by p es sc code a b en bs re (p.count + 1 == u.limit)
+    ∙ exec_by p es sc code a b ans en bs re (p.count + 1 == u.limit)
 
 states_append : (es fs : List Event) (s : State) → states_after (es ++ fs) s ≡ states_after es (states_after fs s)
 states_append [] fs s = refl
@@ -120,7 +120,7 @@ reason_same p re limit none same =
 -- the state behind an instruction is the one shown
 behind_shown : (p : PlainState) (code : Code) (i : Instr) (en : Option Entry) (bs : List ℕ) (e : Effect) (es : List Entry) (sc : List Command) (limit : ℕ)
     → code.instr ≡ Some i → change.printed p.console bs ≡ e.console → p.reason ≡ None → p.limit ≡ limit
-    → behind p code (outcome en bs e.reason) es sc (limit_reason (p.count + 1 == limit)) ≡ shown (retired p i e) None (option_to_list en ++ es) sc
+    → behind p code (outcome e.answer en bs e.reason) es sc (limit_reason (p.count + 1 == limit)) ≡ shown (retired p i e) None (option_to_list en ++ es) sc
 unfolding executed
 behind_shown p code i en bs e es sc limit is_instr is_console none same =
     let mk : Arch → List ℕ → Option Reason → State = λ a c r. record {
@@ -130,9 +130,9 @@ behind_shown p code i en bs e es sc limit is_instr is_console none same =
       reason = r;
       script = sc;
     } in
-    ap (λ o. mk (after_decoded p.arch code.word o Answer.Nothing) (change.printed p.console bs) (first_reason (first_reason p.reason e.reason) (limit_reason (p.count + 1 == limit)))) is_instr
-    ∙ ap (λ c. mk (after p.arch i Answer.Nothing) c (first_reason (first_reason p.reason e.reason) (limit_reason (p.count + 1 == limit)))) is_console
-    ∙ ap (λ r. mk (after p.arch i Answer.Nothing) e.console r) (reason_same p e.reason limit none same)
+    ap (λ o. mk (after_decoded p.arch code.word o e.answer) (change.printed p.console bs) (first_reason (first_reason p.reason e.reason) (limit_reason (p.count + 1 == limit)))) is_instr
+    ∙ ap (λ c. mk (after p.arch i e.answer) c (first_reason (first_reason p.reason e.reason) (limit_reason (p.count + 1 == limit)))) is_console
+    ∙ ap (λ r. mk (after p.arch i e.answer) e.console r) (reason_same p e.reason limit none same)
 
 -- the fetch, where the next word lies in RAM and where it doesn't
 fetch_by : (u : Setup) (p : PlainState) (es : List Entry) (sc : List Command) (b : Bool) → p.arch.satp ≡ 0 → length p.ram ≡ 512 * u.layout.pages → is_in p.ram p.arch.pc ≡ b
@@ -164,24 +164,31 @@ code_one p found code only same decodes =
 -- what the need of an instruction does
 does_need : (u : Setup) (p : PlainState) (es : List Entry) (sc : List Command) (code : Code) (n : Need) → p.arch.satp ≡ 0 → length p.ram ≡ 512 * u.layout.pages → ShowsRam p.ram (written u.image es)
     → exec.IsBuiltNeed n
-    → Served u p es (perform u (shown p (Some code) es sc) 0 (first_now u (shown p (Some code) es sc) 0 (access_of n)) (second_now u (shown p (Some code) es sc) 0 (access_of n)) n) (effect_of_need p n)
+    → Served u p es n (perform u (shown p (Some code) es sc) 0 (first_now u (shown p (Some code) es sc) 0 (access_of n)) (second_now u (shown p (Some code) es sc) 0 (access_of n)) n) (effect_of_need p n)
 unfolding perform
-does_need u p es sc code Need.Nothing bare size ram built = record { entry = None; bytes = []; is_outcome = refl; built = refl; console = refl; size = refl; ram = ram }
+does_need u p es sc code Need.Nothing bare size ram built =
+    record { entry = None; bytes = []; is_outcome = refl; built = refl; done = refl; form = refl; console = refl; size = refl; ram = ram }
+does_need u p es sc code (Need.Trap cause tval) bare size ram built = refl
+does_need u p es sc code (Need.Load va w sign) bare size ram built =
+    let s = shown p (Some code) es sc in
+    let n = Need.Load va w sign in
+    subst (λ f. Served u p es n (perform u s 0 f (second_now u s 0 (access_of n)) n) (effect_of_need p n))
+    (sym (bare_walk u.layout.pages (regime p.arch) Kind.Load _ va bare))
+    (served_load u p es va w sign (second_now u s 0 (access_of n)) size ram)
 does_need u p es sc code (Need.Store va w value) bare size ram built =
     let s = shown p (Some code) es sc in
-    subst (λ f. Served u p es (perform u s 0 f (second_now u s 0 (access_of (Need.Store va w value))) (Need.Store va w value)) (effect_of_need p (Need.Store va w value)))
+    let n = Need.Store va w value in
+    subst (λ f. Served u p es n (perform u s 0 f (second_now u s 0 (access_of n)) n) (effect_of_need p n))
     (sym (bare_walk u.layout.pages (regime p.arch) Kind.Store _ va bare))
-    (served_store u p es va w value (second_now u s 0 (access_of (Need.Store va w value))) (small w built) size ram)
-  where
-    small : (w : ℕ) → (w ≡ 1) ⊎ (w ≡ 4) → w ≤ 8
-    small w (inl e) = omega (arith, e)
-    small w (inr e) = omega (arith, e)
+    (served_store u p es va w value (second_now u s 0 (access_of n)) size ram)
 does_need u p es sc code _ bare size ram built = absurd built
 
 no_flush : (u : Setup) (s : State) (n : Need) → exec.IsBuiltNeed n → flushing u s 0 n ≡ None
 unfolding flushing
 no_flush u s Need.Nothing built = refl
+no_flush u s (Need.Load va w sign) built = refl
 no_flush u s (Need.Store va w value) built = refl
+no_flush u s (Need.Trap cause tval) built = refl
 no_flush u s _ built = absurd built
 
 -- the tests of a built form
@@ -189,19 +196,23 @@ and_false : (a : Bool) → a && false ≡ false
 and_false true = refl
 and_false false = refl
 
+done_of : (ans : Answer) → is_answer_built ans ≡ true → exec.IsDone ans
+done_of (Answer.Fault cause tval) e = cc
+done_of _ e = tt
+
 -- the turn of an instruction
 instr_turn : (u : Setup) (p : PlainState) (es : List Entry) (sc : List Command) (word : ℕ) (i : Instr) (k : Shows u p (shown p None es sc)) → k.entries ≡ es → p.reason ≡ None → is_in p.ram p.arch.pc ≡ true
     → p.arch.satp ≡ 0 → p.arch.sie ≡ 0 → length p.ram ≡ 512 * u.layout.pages → ShowsRam p.ram (written u.image es) → p.limit ≡ u.limit → p.harts ≡ u.layout.harts → p.arch.pc % 4 ≡ 0
     → exec.is_built i ≡ true
     → (o : Option Effect) → effect_of_need p (need_of p.arch i) ≡ o
-    → Served u p es (outcome_now u (shown p (Some (record { word = word; instr = Some i })) es sc) 0) o
+    → Served u p es (need_of p.arch i) (outcome_now u (shown p (Some (record { word = word; instr = Some i })) es sc) 0) o
     → Shows u (after_effect p i o) (after_turn u 0 (record { word = word; instr = Some i }) (shown p None es sc))
 unfolding is_built
 instr_turn u p es sc word i k _ none here bare quiet size ram limit harts pc built None is_effect served =
     let code : Code = record { word = word; instr = Some i } in
     let leaf : is_leaf_end (fetch_end u (shown p None es sc) 0) ≡ true = ap is_leaf_end (fetch_by u p es sc true bare size here) in
     let no : is_built u (shown p None es sc) 0 code ≡ false
-    = ap (λ s. not (is_pending u (shown p None es sc) 0 (memory u (shown p None es sc))) && is_leaf_end (fetch_end u (shown p None es sc) 0) && exec.is_built i && is_outcome_built (outcome_now u s 0)) (fetch_state u p es sc code leaf)
+    = ap (λ s. not (is_pending u (shown p None es sc) 0 (memory u (shown p None es sc))) && is_leaf_end (fetch_end u (shown p None es sc) 0) && exec.is_built i && is_exec_built u s 0) (fetch_state u p es sc code leaf)
     ∙ ap (λ b. not (is_pending u (shown p None es sc) 0 (memory u (shown p None es sc))) && is_leaf_end (fetch_end u (shown p None es sc) 0) && exec.is_built i && b) served
     ∙ and_false (not (is_pending u (shown p None es sc) 0 (memory u (shown p None es sc))) && is_leaf_end (fetch_end u (shown p None es sc) 0) && exec.is_built i) in
     record { entries = es; script = sc; state = unbuilt_state u p es sc code none no; harts = harts; size = size; ram = ram; limit = limit; bare = bare; quiet = quiet; aligned = pc }
@@ -210,25 +221,26 @@ instr_turn u p es sc word i k _ none here bare quiet size ram limit harts pc bui
     let s = shown p None es sc in
     let leaf : is_leaf_end (fetch_end u s 0) ≡ true = ap is_leaf_end (fetch_by u p es sc true bare size here) in
     let yes : is_built u s 0 code ≡ true
-    = ap (λ x. not (is_pending u s 0 (memory u s)) && is_leaf_end (fetch_end u s 0) && exec.is_built i && is_outcome_built (outcome_now u x 0)) (fetch_state u p es sc code leaf)
-    ∙ ap (λ d. not (is_pending u s 0 (memory u s)) && is_leaf_end (fetch_end u s 0) && exec.is_built i && is_outcome_built d) does.is_outcome
-    ∙ ap (λ b. not b && is_leaf_end (fetch_end u s 0) && exec.is_built i && is_outcome_built (outcome does.entry does.bytes e.reason)) (quietly u p es sc quiet)
-    ∙ ap (λ b. b && exec.is_built i && is_outcome_built (outcome does.entry does.bytes e.reason)) leaf
-    ∙ ap (λ b. b && is_outcome_built (outcome does.entry does.bytes e.reason)) built
-    ∙ does.built in
+    = ap (λ x. not (is_pending u s 0 (memory u s)) && is_leaf_end (fetch_end u s 0) && exec.is_built i && is_exec_built u x 0) (fetch_state u p es sc code leaf)
+    ∙ ap (λ d. not (is_pending u s 0 (memory u s)) && is_leaf_end (fetch_end u s 0) && exec.is_built i && (is_need_built (need_of p.arch i) && is_answer_built d.answer)) does.is_outcome
+    ∙ ap (λ b. not b && is_leaf_end (fetch_end u s 0) && exec.is_built i && (is_need_built (need_of p.arch i) && is_answer_built e.answer)) (quietly u p es sc quiet)
+    ∙ ap (λ b. b && exec.is_built i && (is_need_built (need_of p.arch i) && is_answer_built e.answer)) leaf
+    ∙ ap (λ b. b && (is_need_built (need_of p.arch i) && is_answer_built e.answer)) built
+    ∙ ap (λ b. b && is_answer_built e.answer) does.built
+    ∙ does.done in
     record {
       entries = option_to_list does.entry ++ es;
       script = sc;
       state = turn_state u p es sc code none quiet yes leaf
-          ∙ exec_state u p es sc code does.entry does.bytes e.reason (no_flush u (shown p (Some code) es sc) (need_of p.arch i) (built_need p.arch i built)) does.is_outcome
+          ∙ exec_state u p es sc code e.answer does.entry does.bytes e.reason (no_flush u (shown p (Some code) es sc) (need_of p.arch i) (built_need p.arch i built)) does.is_outcome
           ∙ behind_shown p code i does.entry does.bytes e es sc u.limit refl does.console none limit;
       harts = harts;
       size = does.size ∙ size;
       ram = does.ram;
       limit = limit;
-      bare = keeps_satp p.arch i built ∙ bare;
-      quiet = keeps_sie p.arch i built ∙ quiet;
-      aligned = keeps_aligned p.arch i built pc;
+      bare = keeps_satp p.arch i e.answer built (done_of e.answer does.done) ∙ bare;
+      quiet = keeps_sie p.arch i e.answer built (done_of e.answer does.done) ∙ quiet;
+      aligned = keeps_aligned p.arch i e.answer built pc (done_of e.answer does.done) does.form;
     }
 
 -- a turn that ends with a form that isn't built
@@ -268,7 +280,7 @@ found_turn u p s k (Some i) none here = go (exec.is_built i) refl
         → Shows u (if b then after_effect p i (effect_of_need p (need_of p.arch i)) else unbuilt p) (after_turn u 0 (record { word = next_word p; instr = Some i }) s)
     go false e = no_turn u p s k (record { word = next_word p; instr = Some i }) none
         (ap (λ b. not (is_pending u (shown p None k.entries k.script) 0 (memory u (shown p None k.entries k.script))) && is_leaf_end (fetch_end u (shown p None k.entries k.script) 0) && b
-        && is_outcome_built (outcome_now u (state_after (fetch_now u (shown p None k.entries k.script) 0 (record { word = next_word p; instr = Some i })) (shown p None k.entries k.script)) 0)) e
+        && is_exec_built u (state_after (fetch_now u (shown p None k.entries k.script) 0 (record { word = next_word p; instr = Some i })) (shown p None k.entries k.script)) 0) e
         ∙ not_instr (not (is_pending u (shown p None k.entries k.script) 0 (memory u (shown p None k.entries k.script)))) (is_leaf_end (fetch_end u (shown p None k.entries k.script) 0)) _)
     go true e =
         subst (λ x. Shows u (after_effect p i (effect_of_need p (need_of p.arch i))) (after_turn u 0 (record { word = next_word p; instr = Some i }) x)) (sym k.state)
@@ -321,7 +333,7 @@ turned_out p q none out is_next = record {
       subst (λ x. Shows u x (after_turn u 0 code s)) (sym is_next)
       (no_turn u p s k code none
       (ap (λ w. not (is_pending u (shown p None k.entries k.script) 0 (memory u (shown p None k.entries k.script))) && is_leaf_end w && is_instr_built code.instr
-      && is_outcome_built (outcome_now u (state_after (fetch_now u (shown p None k.entries k.script) 0 code) (shown p None k.entries k.script)) 0)) (fetch_by u p k.entries k.script false k.bare k.size out)
+      && is_exec_built u (state_after (fetch_now u (shown p None k.entries k.script) 0 code) (shown p None k.entries k.script)) 0) (fetch_by u p k.entries k.script false k.bare k.size out)
       ∙ not_leaf (not (is_pending u (shown p None k.entries k.script) 0 (memory u (shown p None k.entries k.script)))) (is_instr_built code.instr) _));
 }
 

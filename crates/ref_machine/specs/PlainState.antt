@@ -1,5 +1,5 @@
 -- What the machine on one thread keeps, and what one turn of hart 0 makes of it.
-use Rattle.std.specs.Prelude.{◌≡◌, ℕ, zero, suc, ◌+◌, ◌-◌, ◌*◌, ◌/◌, ◌%◌, ◌^◌, ◌≤◌, ◌<◌, Bool, ◌&&◌, ◌==◌, nat_lt, nat_le, if◌then◌else◌, List, [], ◌∷◌, ◌++◌, length, Option, Some, None, IsNone, slice_index, slice_set, vec_len, vec_capacity}
+use Rattle.std.specs.Prelude.{◌≡◌, ℕ, zero, suc, ◌+◌, ◌-◌, ◌*◌, ◌/◌, ◌%◌, ◌^◌, ◌≤◌, ◌<◌, Bool, ◌&&◌, ◌==◌, nat_lt, nat_le, if◌then◌else◌, List, [], ◌∷◌, ◌++◌, length, Option, Some, None, option_map, IsNone, slice_index, slice_set, vec_len, vec_capacity}
 use Rattle.rv64_decode.specs.declared.instruction.Instr.{Instr}
 use Rattle.rv64_decode.specs.Encoding.{Decodes}
 use Rattle.rv64_priv.specs.declared.state.Arch.{Arch}
@@ -12,8 +12,9 @@ use Rattle.elf_load.specs.declared.image.Part.{Part}
 use Rattle.elf_load.specs.Contents.{contents_word}
 use Rattle.ref_machine.specs.declared.reason.Reason.{Reason}
 use Rattle.ref_machine.specs.declared.machine.PlainMachine.TheInside.{Inside}
-use Rattle.ref_machine.specs.Memory.{replaced}
-use Rattle.ref_machine.specs.Device.{DeviceStore, Ends, is_uart, is_finisher, finished}
+use Rattle.ref_machine.specs.Memory.{part, replaced}
+use Rattle.ref_machine.specs.Perform.{extended}
+use Rattle.ref_machine.specs.Device.{DeviceStore, Ends, is_uart, is_finisher, device_value, finished}
 use Rattle.ref_machine.specs.Change.{first_reason}
 use Rattle.ref_machine.specs.State.{reset}
 
@@ -56,14 +57,15 @@ is_in ram pa = nat_le (2 ^ 31) pa && nat_lt (index pa) (length ram)
 abbrev pub next_word : PlainState → ℕ
 next_word p = slice_index p.ram (index p.arch.pc) / 256 ^ (p.arch.pc % 8) % 2 ^ 32
 
--- what a need changes besides the hart
+-- the answer to a need, and what it changes besides the hart
 pub record Effect : Type 0 where
+  pub answer : Answer
   pub ram : List ℕ
   pub console : List ℕ
   pub reason : Option Reason
 
 abbrev pub no_effect : PlainState → Effect
-no_effect p = record { ram = p.ram; console = p.console; reason = None }
+no_effect p = record { answer = Answer.Nothing; ram = p.ram; console = p.console; reason = None }
 
 abbrev pub has_room : List ℕ → Bool
 has_room console = nat_lt (length console) 1048576
@@ -71,6 +73,7 @@ has_room console = nat_lt (length console) 1048576
 -- a byte goes behind the console, or ends the machine where there is no room
 abbrev pub printed : PlainState → (byte : ℕ) → Effect
 printed p byte = record {
+  answer = Answer.Nothing;
   ram = p.ram;
   console = if has_room p.console then p.console ++ byte ∷ [] else p.console;
   reason = if has_room p.console then None else Some Reason.OutFull;
@@ -82,7 +85,7 @@ finisher_reason (Ends reason) = Some reason
 finisher_reason _ = None
 
 abbrev pub ended_by : PlainState → DeviceStore → Effect
-ended_by p store = record { ram = p.ram; console = p.console; reason = finisher_reason store }
+ended_by p store = record { answer = Answer.Nothing; ram = p.ram; console = p.console; reason = finisher_reason store }
 
 -- RAM has the words that the parts of a file give
 abbrev pub IsLoaded : List ℕ → List Part → (words : ℕ) → List ℕ → Type 0
@@ -102,8 +105,20 @@ store_effect p width va value =
     if is_uart va width then Some (if va == 0x10000000 then printed p (value % 256) else no_effect p) else
     if is_finisher va width then Some (ended_by p (finished value)) else None
 
+-- the number that a load finds, and its effect, where the load is built
+abbrev pub number_at : PlainState → (width va : ℕ) → Option ℕ
+number_at p width va =
+    if is_in_word p.ram width va then Some (part (slice_index p.ram (index va)) (va % 8) width) else device_value va width
+
+abbrev pub gives : PlainState → ℕ → Effect
+gives p value = record (no_effect p) { answer = Answer.Value value }
+
+abbrev pub load_effect : PlainState → (width va : ℕ) → Bool → Option Effect
+load_effect p width va signed = option_map (λ number. gives p (extended signed width number)) (number_at p width va)
+
 abbrev pub effect_of_need : PlainState → Need → Option Effect
 effect_of_need p Need.Nothing = Some (no_effect p)
+effect_of_need p (Need.Load va width signed) = load_effect p width va signed
 effect_of_need p (Need.Store va width value) = store_effect p width va value
 effect_of_need p _ = None
 
@@ -113,7 +128,7 @@ limited p reason = first_reason reason (if p.count + 1 == p.limit then Some (Rea
 
 -- an instruction is done, or isn't built
 abbrev pub retired : PlainState → Instr → Effect → PlainState
-retired p i e = record p { ram = e.ram; arch = after p.arch i Answer.Nothing; count = p.count + 1; console = e.console; reason = limited p e.reason }
+retired p i e = record p { ram = e.ram; arch = after p.arch i e.answer; count = p.count + 1; console = e.console; reason = limited p e.reason }
 
 abbrev pub unbuilt : PlainState → PlainState
 unbuilt p = record p { reason = Some Reason.Unbuilt }

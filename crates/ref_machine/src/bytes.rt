@@ -1,10 +1,12 @@
-// A number of so many bytes in place of those that stand in a word.
-ghost use Rattle.std.specs.Prelude.{◌≡◌, ◌≤◌, ◌+◌};
-ghost use Rattle.ref_machine.specs.Memory.{replaced};
+// Numbers of some of a word's bytes: reading and replacing them.
+ghost use Rattle.std.specs.Prelude.{◌≡◌, ◌≤◌, ◌<◌, ◌+◌, ◌/◌, ◌^◌, IsTrue};
+ghost use Rattle.rv64_exec.specs.Built.{is_width};
+ghost use Rattle.ref_machine.specs.Memory.{part, replaced};
+ghost use Rattle.ref_machine.specs.Perform.{extended};
 
 /// `word` with the byte at `offset` replaced by the low byte of `value`.
 #[inline]
-pub(crate) fn replace_byte(word: u64, offset: u64, value: u64) -> u64
+fn replace_byte(word: u64, offset: u64, value: u64) -> u64
     requires { offset + 1 ≤ 8 }
     ensures { result ≡ replaced word offset 1 value }
 {
@@ -27,9 +29,31 @@ pub(crate) fn replace_byte(word: u64, offset: u64, value: u64) -> u64
     }
 }
 
+/// `word` with the two bytes from `offset` on replaced by those of `value`.
+#[inline]
+fn replace_two(word: u64, offset: u64, value: u64) -> u64
+    requires { offset + 2 ≤ 8 }
+    ensures { result ≡ replaced word offset 2 value }
+{
+    let two = value % 0x1_0000;
+    match offset {
+        0 => two + 0x1_0000 * (word / 0x1_0000),
+        1 => word % 0x100 + 0x100 * two + 0x100_0000 * (word / 0x100_0000),
+        2 => word % 0x1_0000 + 0x1_0000 * two + 0x1_0000_0000 * (word / 0x1_0000_0000),
+        3 => word % 0x100_0000 + 0x100_0000 * two + 0x100_0000_0000 * (word / 0x100_0000_0000),
+        4 => word % 0x1_0000_0000
+            + 0x1_0000_0000 * two
+            + 0x1_0000_0000_0000 * (word / 0x1_0000_0000_0000),
+        5 => word % 0x100_0000_0000
+            + 0x100_0000_0000 * two
+            + 0x100_0000_0000_0000 * (word / 0x100_0000_0000_0000),
+        _ => word % 0x1_0000_0000_0000 + 0x1_0000_0000_0000 * two,
+    }
+}
+
 /// `word` with the four bytes from `offset` on replaced by those of `value`.
 #[inline]
-pub(crate) fn replace_four(word: u64, offset: u64, value: u64) -> u64
+fn replace_four(word: u64, offset: u64, value: u64) -> u64
     requires { offset + 4 ≤ 8 }
     ensures { result ≡ replaced word offset 4 value }
 {
@@ -43,4 +67,70 @@ pub(crate) fn replace_four(word: u64, offset: u64, value: u64) -> u64
             + 0x100_0000_0000_0000 * (word / 0x100_0000_0000_0000),
         _ => word % 0x1_0000_0000 + 0x1_0000_0000 * four,
     }
+}
+
+/// `word` with the bytes of an access within it replaced by those of `value`.
+#[inline]
+pub(crate) fn replace(word: u64, offset: u64, width: u8, value: u64) -> u64
+    requires width { IsTrue (is_width width) }
+    requires within { offset + width ≤ 8 }
+    ensures { result ≡ replaced word offset width value }
+{
+    match width {
+        1 => replace_byte(word, offset, value),
+        2 => replace_two(word, offset, value),
+        4 => replace_four(word, offset, value),
+        _ => value,
+    }
+}
+
+/// `word` without its bytes below `offset`.
+#[inline]
+fn from(word: u64, offset: u64) -> u64
+    requires { offset < 8 }
+    ensures { result ≡ word / 256 ^ offset }
+{
+    match offset {
+        0 => word,
+        1 => word / 0x100,
+        2 => word / 0x1_0000,
+        3 => word / 0x100_0000,
+        4 => word / 0x1_0000_0000,
+        5 => word / 0x100_0000_0000,
+        6 => word / 0x1_0000_0000_0000,
+        _ => word / 0x100_0000_0000_0000,
+    }
+}
+
+/// The number in the bytes of an access within `word`.
+#[inline]
+pub(crate) fn part(word: u64, offset: u64, width: u8) -> u64
+    requires width { IsTrue (is_width width) }
+    requires within { offset + width ≤ 8 }
+    ensures number { result ≡ part word offset width }
+    ensures small { result < 256 ^ width }
+{
+    let number = from(word, offset);
+    match width {
+        1 => number % 0x100,
+        2 => number % 0x1_0000,
+        4 => number % 0x1_0000_0000,
+        _ => number,
+    }
+}
+
+/// A number of so many bytes as a register gets it.
+#[inline]
+pub(crate) fn extended(signed: bool, width: u8, number: u64) -> u64
+    requires width { IsTrue (is_width width) }
+    requires small { number < 256 ^ width }
+    ensures { result ≡ extended signed width number }
+{
+    let (half, ones) = match width {
+        1 => (0x80, 0xffff_ffff_ffff_ff00),
+        2 => (0x8000, 0xffff_ffff_ffff_0000),
+        4 => (0x8000_0000, 0xffff_ffff_0000_0000),
+        _ => return number,
+    };
+    if signed && number >= half { ones + number } else { number }
 }

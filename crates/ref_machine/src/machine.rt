@@ -1,19 +1,20 @@
 // The reference machine on one thread: each turn is one turn of the plain run.
-ghost use Rattle.std.specs.Prelude.{◌≡◌, ◌<◌, ◌≤◌, ◌+◌, ◌*◌, ◌%◌, IsNone, IfOk, IsTrue, None, Some, Option, if◌then◌else◌, MatchBool, option_map};
+ghost use Rattle.std.specs.Prelude.{◌≡◌, ◌<◌, ◌≤◌, ◌+◌, ◌*◌, ◌%◌, IsNone, IfOk, IsTrue, IfSome, false, ◌^◌, None, Some, Option, if◌then◌else◌, MatchBool, option_map};
 ghost use Rattle.elf_load.specs.ImageOf.{IsImageOf};
 ghost use Rattle.step_laws.specs.Layout.{IsInLimits};
 ghost use Rattle.rv64_decode.specs.Encoding.{IsInRange};
 ghost use Rattle.rv64_exec.specs.Built as exec;
 ghost use Rattle.rv64_exec.specs.declared.needs.Need.{Need as TheNeed};
+ghost use Rattle.rv64_exec.specs.declared.needs.Answer.{Answer as TheAnswer};
 ghost use Rattle.rv64_exec.specs.Finish.{after, Answers};
 ghost use Rattle.rv64_exec.specs.Plan.{need_of};
 ghost use Rattle.ref_machine.specs.State.{initial, reset};
 ghost use Rattle.ref_machine.specs.PlainState as plain;
-ghost use Rattle.ref_machine.specs.Device.{finished};
+ghost use Rattle.ref_machine.specs.Device.{device_value, finished};
 ghost use Rattle.ref_machine.specs.Shows.{Shows, Turned, setup_of};
 ghost use Rattle.ref_machine.specs.declared.reason.Reason.{Reason as TheReason};
 
-use crate::bytes::{replace_byte, replace_four};
+use crate::bytes::{extended, part, replace};
 use crate::loader::word_at;
 use crate::reason::Reason;
 use elf_load::{Image, Part};
@@ -32,6 +33,9 @@ const UART: u64 = 0x1000_0000;
 
 const UART_LAST: u64 = 0x1000_0007;
 
+/// The UART's line status: 0x60 says that it is idle and takes a byte.
+const UART_STATUS: u64 = 0x1000_0005;
+
 /// The finisher: a store of 0x5555 here ends the machine with a pass, and one of 0x3333 with a fail.
 const FINISHER: u64 = 0x10_0000;
 
@@ -49,6 +53,18 @@ const RESET: Arch = Arch {
     stval: 0,
     satp: 0,
     hold: None,
+};
+
+/// What came of a need: its answer, and the reason that it gave to end the machine.
+#[derive(Clone, Copy)]
+struct Served {
+    answer: Answer,
+    reason: Option<Reason>,
+}
+
+const DONE: Served = Served {
+    answer: Answer::Nothing,
+    reason: None,
 };
 
 /// The machine: its RAM by words, hart 0, and what it printed. Until a hart can start another, all other harts
@@ -102,6 +118,20 @@ fn finisher(value: u64) -> Option<Reason>
         0x3333 => Some(Reason::Fail((value / 0x1_0000 % 0x1_0000) as u16)),
         _ => None,
     }
+}
+
+/// What a load from a device gives, where there is one: the UART is always ready to print.
+fn device_number(va: u64, width: u8) -> Option<u64>
+    ensures number { result ≡ device_value va width }
+    ensures small { IfSome result (λ number. number < 256 ^ width) }
+{
+    if width == 1 && UART <= va && va <= UART_LAST {
+        return Some(if va == UART_STATUS { 0x60 } else { 0 });
+    }
+    if width == 4 && va == FINISHER {
+        return Some(0);
+    }
+    None
 }
 
 impl PlainMachine {
@@ -228,56 +258,85 @@ impl PlainMachine {
     {
         if is_built(instr) {
             let need = plan(&self.arch, instr);
-            if let Some(reason) = self.serve(&need) {
-                self.retire(instr, reason);
+            if let Some(served) = self.serve(&need) {
+                self.retire(instr, served);
                 return;
             }
         }
         self.reason = Some(Reason::Unbuilt);
     }
 
-    /// Does what an instruction needs, where that is built, and answers the reason that it gave, if any.
+    /// Does what an instruction needs, where that is built.
     #[inline]
-    fn serve(&mut self, need: &Need) -> Option<Option<Reason>>
+    fn serve(&mut self, need: &Need) -> Option<Served>
         requires { exec.IsBuiltNeed need.now }
-        ensures served { plain.effect_of_need self.old need.now ≡ option_map (λ reason. record { ram = self.new.ram; console = self.new.console; reason = reason }) result }
+        ensures served { plain.effect_of_need self.old need.now ≡ option_map (λ served. record { answer = served.answer; ram = self.new.ram; console = self.new.console; reason = served.reason }) result }
+        ensures done { IfSome result (λ served. exec.IsDone served.answer × Answers need.now served.answer) }
         ensures rest { self.new ≡ record self.old { ram = self.new.ram; console = self.new.console } }
         ensures none { IsNone result → self.new ≡ self.old }
     {
-        match need {
-            Need::Nothing => Some(None),
-            Need::Store { va, width, value } => self.store(*va, *width, *value),
+        match *need {
+            Need::Nothing => Some(DONE),
+            Need::Load { va, width, signed } => self.load(va, width, signed),
+            Need::Store { va, width, value } => self.store(va, width, value),
             _ => None,
         }
     }
 
     #[inline]
-    fn store(&mut self, va: u64, width: u8, value: u64) -> Option<Option<Reason>>
-        requires { exec.IsBuiltNeed (TheNeed.Store va width value) }
-        ensures served { plain.store_effect self.old width va value ≡ option_map (λ reason. record { ram = self.new.ram; console = self.new.console; reason = reason }) result }
-        ensures rest { self.new ≡ record self.old { ram = self.new.ram; console = self.new.console } }
-        ensures none { IsNone result → self.new ≡ self.old }
+    fn load(&self, va: u64, width: u8, signed: bool) -> Option<Served>
+        requires { exec.IsBuiltNeed (TheNeed.Load va width signed) }
+        ensures served { plain.load_effect self.now width va signed ≡ option_map (λ served. record { answer = served.answer; ram = self.now.ram; console = self.now.console; reason = served.reason }) result }
+        ensures done { IfSome result (λ served. exec.IsDone served.answer × Answers (TheNeed.Load va width signed) served.answer) }
+    {
+        let number = self.number_at(va, width)?;
+        Some(Served {
+            answer: Answer::Value(extended(signed, width, number)),
+            reason: None,
+        })
+    }
+
+    #[inline]
+    fn number_at(&self, va: u64, width: u8) -> Option<u64>
+        requires { exec.IsBuiltNeed (TheNeed.Load va width false) }
+        ensures number { result ≡ plain.number_at self.now width va }
+        ensures small { IfSome result (λ number. number < 256 ^ width) }
     {
         if va < RAM_BASE {
-            return self.store_device(va, width, value);
+            return device_number(va, width);
         }
         let i = (va - RAM_BASE) / 8;
         let offset = va % 8;
         if i >= self.ram.len() as u64 || offset + width as u64 > 8 {
             return None;
         }
-        let old = self.ram[i as usize];
-        self.ram[i as usize] = if width == 1 {
-            replace_byte(old, offset, value)
-        } else {
-            replace_four(old, offset, value)
-        };
-        Some(None)
+        Some(part(self.ram[i as usize], offset, width))
+    }
+
+    #[inline]
+    fn store(&mut self, va: u64, width: u8, value: u64) -> Option<Served>
+        requires { exec.IsBuiltNeed (TheNeed.Store va width value) }
+        ensures served { plain.store_effect self.old width va value ≡ option_map (λ served. record { answer = served.answer; ram = self.new.ram; console = self.new.console; reason = served.reason }) result }
+        ensures done { IfSome result (λ served. exec.IsDone served.answer × Answers (TheNeed.Store va width value) served.answer) }
+        ensures rest { self.new ≡ record self.old { ram = self.new.ram; console = self.new.console } }
+        ensures none { IsNone result → self.new ≡ self.old }
+    {
+        if va < RAM_BASE {
+            let reason = self.store_device(va, width, value)?;
+            return Some(Served { reason, ..DONE });
+        }
+        let i = (va - RAM_BASE) / 8;
+        let offset = va % 8;
+        if i >= self.ram.len() as u64 || offset + width as u64 > 8 {
+            return None;
+        }
+        self.ram[i as usize] = replace(self.ram[i as usize], offset, width, value);
+        Some(DONE)
     }
 
     fn store_device(&mut self, va: u64, width: u8, value: u64) -> Option<Option<Reason>>
         requires { va < 2147483648 }
-        ensures served { plain.store_effect self.old width va value ≡ option_map (λ reason. record { ram = self.new.ram; console = self.new.console; reason = reason }) result }
+        ensures served { plain.store_effect self.old width va value ≡ option_map (λ reason. record { answer = TheAnswer.Nothing; ram = self.new.ram; console = self.new.console; reason = reason }) result }
         ensures rest { self.new ≡ record self.old { console = self.new.console } }
         ensures none { IsNone result → self.new ≡ self.old }
     {
@@ -296,7 +355,7 @@ impl PlainMachine {
 
     /// Appends a byte to the console; where that is full, this is the reason.
     fn print(&mut self, byte: u8) -> Option<Reason>
-        ensures printed { plain.printed self.old byte ≡ record { ram = self.old.ram; console = self.new.console; reason = result } }
+        ensures printed { plain.printed self.old byte ≡ record { answer = TheAnswer.Nothing; ram = self.old.ram; console = self.new.console; reason = result } }
         ensures rest { self.new ≡ record self.old { console = self.new.console } }
     {
         if self.console.len() >= CONSOLE_BYTES {
@@ -308,16 +367,17 @@ impl PlainMachine {
 
     /// Finishes the instruction, and counts it: at the limit that is the reason, where it gave none itself.
     #[inline]
-    fn retire(&mut self, instr: &Instr, reason: Option<Reason>)
+    fn retire(&mut self, instr: &Instr, served: Served)
         requires going { IsNone self.old.reason }
         requires range { IsInRange instr.now }
         requires built { IsTrue (exec.is_built instr.now) }
-        requires form { Answers (need_of self.old.arch instr.now) Answer.Nothing }
-        ensures { self.new ≡ plain.retired self.old instr.now (record { ram = self.old.ram; console = self.old.console; reason = reason }) }
+        requires done { exec.IsDone served.answer }
+        requires form { Answers (need_of self.old.arch instr.now) served.answer }
+        ensures { self.new ≡ plain.retired self.old instr.now (record { answer = served.answer; ram = self.old.ram; console = self.old.console; reason = served.reason }) }
     {
-        finish(&mut self.arch, instr, Answer::Nothing);
+        finish(&mut self.arch, instr, served.answer);
         self.count += 1;
-        self.reason = match reason {
+        self.reason = match served.reason {
             Some(why) => Some(why),
             None if self.count == self.limit => Some(Reason::Limit(0)),
             None => None,

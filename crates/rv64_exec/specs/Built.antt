@@ -1,19 +1,80 @@
--- The instructions that `plan` and `finish` serve so far: LUI, ADDI, SB and SW (RISC-V Unprivileged ISA,
--- "RV32I Base Integer Instruction Set").
-use Rattle.std.specs.Prelude.{◌≡◌, ◌⊎◌, Bool, true, false}
+-- The instructions that `plan` and `finish` serve so far: the base ISA but for system instructions (RISC-V Unprivileged ISA, "RV32I Base
+-- Integer Instruction Set", "RV64I Base Integer Instruction Set"), and FENCE.I.
+use Rattle.std.specs.Prelude.{ℕ, Bool, true, false, ◌||◌, ◌==◌, IsTrue}
 use Rattle.rv64_decode.specs.declared.instruction.Instr.{Instr}
-use Rattle.rv64_decode.specs.declared.instruction.Instr.TheVariants.{Lui, Addi, Sb, Sw}
+use Rattle.rv64_decode.specs.declared.instruction.Instr.TheVariants.{Lui, Auipc, Jal, Jalr, Beq, Bne, Blt, Bge, Bltu, Bgeu, Lb, Lh, Lw, Ld, Lbu, Lhu}
+use Rattle.rv64_decode.specs.declared.instruction.Instr.TheVariants.{Lwu, Sb, Sh, Sw, Sd, Addi, Slti, Sltiu, Xori, Ori, Andi, Addiw, Slli, Srli, Srai}
+use Rattle.rv64_decode.specs.declared.instruction.Instr.TheVariants.{Slliw, Srliw, Sraiw, Add, Sll, Slt, Sltu, Xor, Srl, Or, And, Sub, Sra, Addw, Sllw}
+use Rattle.rv64_decode.specs.declared.instruction.Instr.TheVariants.{Srlw, Subw, Sraw, Fence, Fencei}
 use Rattle.rv64_exec.specs.declared.needs.Need.{Need}
+use Rattle.rv64_exec.specs.declared.needs.Answer.{Answer}
 
 abbrev pub is_built : Instr → Bool
-is_built (Lui rd imm) = true
-is_built (Addi rd rs1 imm) = true
-is_built (Sb rs1 rs2 imm) = true
-is_built (Sw rs1 rs2 imm) = true
+is_built (Lui d z) = true
+is_built (Auipc d z) = true
+is_built (Jal d z) = true
+is_built (Jalr d r z) = true
+is_built (Beq p q z) = true
+is_built (Bne p q z) = true
+is_built (Blt p q z) = true
+is_built (Bge p q z) = true
+is_built (Bltu p q z) = true
+is_built (Bgeu p q z) = true
+is_built (Lb d r z) = true
+is_built (Lh d r z) = true
+is_built (Lw d r z) = true
+is_built (Ld d r z) = true
+is_built (Lbu d r z) = true
+is_built (Lhu d r z) = true
+is_built (Lwu d r z) = true
+is_built (Sb r q z) = true
+is_built (Sh r q z) = true
+is_built (Sw r q z) = true
+is_built (Sd r q z) = true
+is_built (Addi d r z) = true
+is_built (Slti d r z) = true
+is_built (Sltiu d r z) = true
+is_built (Xori d r z) = true
+is_built (Ori d r z) = true
+is_built (Andi d r z) = true
+is_built (Addiw d r z) = true
+is_built (Slli d r k) = true
+is_built (Srli d r k) = true
+is_built (Srai d r k) = true
+is_built (Slliw d r k) = true
+is_built (Srliw d r k) = true
+is_built (Sraiw d r k) = true
+is_built (Add d p q) = true
+is_built (Sll d p q) = true
+is_built (Slt d p q) = true
+is_built (Sltu d p q) = true
+is_built (Xor d p q) = true
+is_built (Srl d p q) = true
+is_built (Or d p q) = true
+is_built (And d p q) = true
+is_built (Sub d p q) = true
+is_built (Sra d p q) = true
+is_built (Addw d p q) = true
+is_built (Sllw d p q) = true
+is_built (Srlw d p q) = true
+is_built (Subw d p q) = true
+is_built (Sraw d p q) = true
+is_built (Fence rest) = true
+is_built (Fencei rest) = true
 is_built _ = false
 
--- they need nothing, or a store of 1 or 4 bytes
+-- they need nothing, a load or a store of 1, 2, 4 or 8 bytes, or a trap
+abbrev pub is_width : ℕ → Bool
+is_width width = (width == 1) || (width == 2) || (width == 4) || (width == 8)
+
 abbrev pub IsBuiltNeed : Need → Type 0
 IsBuiltNeed Need.Nothing = Unit {0}
-IsBuiltNeed (Need.Store va width value) = (width ≡ 1) ⊎ (width ≡ 4)
+IsBuiltNeed (Need.Load va width signed) = IsTrue (is_width width)
+IsBuiltNeed (Need.Store va width value) = IsTrue (is_width width)
+IsBuiltNeed (Need.Trap cause tval) = Unit {0}
 IsBuiltNeed _ = ⊥
+
+-- the instruction is done: it takes no fault
+abbrev pub IsDone : Answer → Type 0
+IsDone (Answer.Fault cause tval) = ⊥
+IsDone _ = Unit {0}

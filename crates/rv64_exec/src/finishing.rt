@@ -1,13 +1,15 @@
 // What an instruction leaves of its hart, once the machine has answered its need.
 ghost use Rattle.std.specs.Prelude.{◌≡◌, ◌<◌, IsTrue};
 ghost use Rattle.rv64_decode.specs.Encoding.{IsInRange};
-ghost use Rattle.rv64_exec.specs.Alu.{u64};
 ghost use Rattle.rv64_exec.specs.Built.{is_built};
-ghost use Rattle.rv64_exec.specs.Plan.{need_of};
-ghost use Rattle.rv64_exec.specs.Finish.{after, done, next, retire, set_reg, Answers};
+ghost use Rattle.rv64_exec.specs.Plan.{jal_target, need_of};
+ghost use Rattle.rv64_exec.specs.Finish.{after, branched, done, jumped, next, retire, set_reg, value_of, Answers};
 
+use crate::alu::{
+    add, addw, extended, sll, sllw, slt, sltu, sra, sraw, srl, srlw, sub, subw,
+};
 use crate::needs::Answer;
-use crate::planning::address;
+use crate::planning::{is_less, jal_target, jalr_target, reg};
 use rv64_decode::Instr;
 use rv64_priv::{Arch, trap};
 
@@ -29,7 +31,7 @@ fn next(arch: &mut Arch)
 }
 
 #[inline]
-fn retire(arch: &mut Arch, rd: u8, value: u64)
+fn retire(rd: u8, value: u64, arch: &mut Arch)
     requires { rd < 32 }
     ensures { arch.new ≡ retire arch.old rd value }
 {
@@ -37,12 +39,41 @@ fn retire(arch: &mut Arch, rd: u8, value: u64)
     next(arch);
 }
 
-/// An immediate as a register holds it, sign-extended.
+/// Puts the address of the next instruction into a register, and goes to the target.
 #[inline]
-fn extended(imm: i32) -> u64
-    ensures { result ≡ u64 imm }
+fn jump(rd: u8, target: u64, arch: &mut Arch)
+    requires { rd < 32 }
+    ensures { arch.new ≡ jumped arch.old rd target }
 {
-    (imm as i64).cast_unsigned()
+    let link = arch.pc.wrapping_add(4);
+    set_reg(arch, rd, link);
+    arch.pc = target;
+}
+
+#[inline]
+fn branch(taken: bool, imm: i32, arch: &mut Arch)
+    ensures { arch.new ≡ branched arch.old taken (jal_target arch.old imm) }
+{
+    if taken {
+        arch.pc = jal_target(arch, imm);
+    } else {
+        next(arch);
+    }
+}
+
+/// The number in an answer, 0 where there is none.
+#[inline]
+fn value_of(answer: Answer) -> u64
+    ensures { result ≡ value_of answer }
+{
+    match answer {
+        Answer::Value(value)
+        | Answer::LrValue { value, .. }
+        | Answer::Pair { value, .. }
+        | Answer::Single(value) => value,
+        Answer::Sc { stored } => u64::from(!stored),
+        Answer::Nothing | Answer::Fault { .. } => 0,
+    }
 }
 
 #[inline]
@@ -52,13 +83,94 @@ fn complete(arch: &mut Arch, instr: &Instr, answer: Answer)
     requires built { IsTrue (is_built instr.now) }
     ensures { arch.new ≡ done arch.old instr.now answer }
 {
-    match instr {
-        Instr::Lui { rd, imm } => retire(arch, *rd, extended(*imm)),
-        Instr::Addi { rd, rs1, imm } => {
-            let value = address(arch, *rs1, *imm);
-            retire(arch, *rd, value);
-        }
-        _ => next(arch),
+    match *instr {
+        Instr::Lui { rd, imm } => retire(rd, extended(imm), arch),
+        Instr::Auipc { rd, imm } => retire(rd, jal_target(arch, imm), arch),
+        Instr::Jal { rd, imm } => jump(rd, jal_target(arch, imm), arch),
+        Instr::Jalr { rd, rs1, imm } => jump(rd, jalr_target(arch, rs1, imm), arch),
+        Instr::Beq { rs1, rs2, imm } => branch(reg(arch, rs1) == reg(arch, rs2), imm, arch),
+        Instr::Bne { rs1, rs2, imm } => branch(reg(arch, rs1) != reg(arch, rs2), imm, arch),
+        Instr::Blt { rs1, rs2, imm } => branch(is_less(arch, rs1, rs2), imm, arch),
+        Instr::Bge { rs1, rs2, imm } => branch(!is_less(arch, rs1, rs2), imm, arch),
+        Instr::Bltu { rs1, rs2, imm } => branch(reg(arch, rs1) < reg(arch, rs2), imm, arch),
+        Instr::Bgeu { rs1, rs2, imm } => branch(reg(arch, rs1) >= reg(arch, rs2), imm, arch),
+        Instr::Lb { rd, .. }
+        | Instr::Lh { rd, .. }
+        | Instr::Lw { rd, .. }
+        | Instr::Ld { rd, .. }
+        | Instr::Lbu { rd, .. }
+        | Instr::Lhu { rd, .. }
+        | Instr::Lwu { rd, .. } => retire(rd, value_of(answer), arch),
+        Instr::Addi { rd, rs1, imm } => retire(rd, add(reg(arch, rs1), extended(imm)), arch),
+        Instr::Slti { rd, rs1, imm } => retire(rd, slt(reg(arch, rs1), extended(imm)), arch),
+        Instr::Sltiu { rd, rs1, imm } => retire(rd, sltu(reg(arch, rs1), extended(imm)), arch),
+        Instr::Addiw { rd, rs1, imm } => retire(rd, addw(reg(arch, rs1), extended(imm)), arch),
+        Instr::Xori { rd, rs1, imm } => retire(rd, reg(arch, rs1) ^ extended(imm), arch),
+        Instr::Ori { rd, rs1, imm } => retire(rd, reg(arch, rs1) | extended(imm), arch),
+        Instr::Andi { rd, rs1, imm } => retire(rd, reg(arch, rs1) & extended(imm), arch),
+        Instr::Slli { rd, rs1, amount } => retire(rd, sll(reg(arch, rs1), u64::from(amount)), arch),
+        Instr::Srli { rd, rs1, amount } => retire(rd, srl(reg(arch, rs1), u64::from(amount)), arch),
+        Instr::Srai { rd, rs1, amount } => retire(rd, sra(reg(arch, rs1), u64::from(amount)), arch),
+        Instr::Slliw { rd, rs1, amount } => retire(rd, sllw(reg(arch, rs1), u64::from(amount)), arch),
+        Instr::Srliw { rd, rs1, amount } => retire(rd, srlw(reg(arch, rs1), u64::from(amount)), arch),
+        Instr::Sraiw { rd, rs1, amount } => retire(rd, sraw(reg(arch, rs1), u64::from(amount)), arch),
+        Instr::Add { rd, rs1, rs2 } => retire(rd, add(reg(arch, rs1), reg(arch, rs2)), arch),
+        Instr::Sll { rd, rs1, rs2 } => retire(rd, sll(reg(arch, rs1), reg(arch, rs2)), arch),
+        Instr::Slt { rd, rs1, rs2 } => retire(rd, slt(reg(arch, rs1), reg(arch, rs2)), arch),
+        Instr::Sltu { rd, rs1, rs2 } => retire(rd, sltu(reg(arch, rs1), reg(arch, rs2)), arch),
+        Instr::Srl { rd, rs1, rs2 } => retire(rd, srl(reg(arch, rs1), reg(arch, rs2)), arch),
+        Instr::Sub { rd, rs1, rs2 } => retire(rd, sub(reg(arch, rs1), reg(arch, rs2)), arch),
+        Instr::Sra { rd, rs1, rs2 } => retire(rd, sra(reg(arch, rs1), reg(arch, rs2)), arch),
+        Instr::Addw { rd, rs1, rs2 } => retire(rd, addw(reg(arch, rs1), reg(arch, rs2)), arch),
+        Instr::Sllw { rd, rs1, rs2 } => retire(rd, sllw(reg(arch, rs1), reg(arch, rs2)), arch),
+        Instr::Srlw { rd, rs1, rs2 } => retire(rd, srlw(reg(arch, rs1), reg(arch, rs2)), arch),
+        Instr::Subw { rd, rs1, rs2 } => retire(rd, subw(reg(arch, rs1), reg(arch, rs2)), arch),
+        Instr::Sraw { rd, rs1, rs2 } => retire(rd, sraw(reg(arch, rs1), reg(arch, rs2)), arch),
+        Instr::Xor { rd, rs1, rs2 } => retire(rd, reg(arch, rs1) ^ reg(arch, rs2), arch),
+        Instr::Or { rd, rs1, rs2 } => retire(rd, reg(arch, rs1) | reg(arch, rs2), arch),
+        Instr::And { rd, rs1, rs2 } => retire(rd, reg(arch, rs1) & reg(arch, rs2), arch),
+        Instr::Sb { .. }
+        | Instr::Sh { .. }
+        | Instr::Sw { .. }
+        | Instr::Sd { .. }
+        | Instr::Fence { .. }
+        | Instr::Fencei { .. } => next(arch),
+        // not built
+        Instr::Mul { .. }
+        | Instr::Mulh { .. }
+        | Instr::Mulhsu { .. }
+        | Instr::Mulhu { .. }
+        | Instr::Div { .. }
+        | Instr::Divu { .. }
+        | Instr::Rem { .. }
+        | Instr::Remu { .. }
+        | Instr::Mulw { .. }
+        | Instr::Divw { .. }
+        | Instr::Divuw { .. }
+        | Instr::Remw { .. }
+        | Instr::Remuw { .. }
+        | Instr::Ecall
+        | Instr::Ebreak
+        | Instr::Sret
+        | Instr::Wfi
+        | Instr::Sfencevma { .. }
+        | Instr::Csrrw { .. }
+        | Instr::Csrrs { .. }
+        | Instr::Csrrc { .. }
+        | Instr::Csrrwi { .. }
+        | Instr::Csrrsi { .. }
+        | Instr::Csrrci { .. }
+        | Instr::Lr { .. }
+        | Instr::Sc { .. }
+        | Instr::Amoswap { .. }
+        | Instr::Amoadd { .. }
+        | Instr::Amoxor { .. }
+        | Instr::Amoand { .. }
+        | Instr::Amoor { .. }
+        | Instr::Amomin { .. }
+        | Instr::Amomax { .. }
+        | Instr::Amominu { .. }
+        | Instr::Amomaxu { .. } => {}
     }
 }
 

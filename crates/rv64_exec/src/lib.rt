@@ -2,6 +2,7 @@
 //! "RV32I Base Integer Instruction Set", "RV64I Base Integer Instruction Set").
 #![tactic(auto)]
 
+mod alu;
 mod finishing;
 mod needs;
 mod planning;
