@@ -132,5 +132,9 @@ pub(crate) fn extended(signed: bool, width: u8, number: u64) -> u64
         4 => (0x8000_0000, 0xffff_ffff_0000_0000),
         _ => return number,
     };
-    if signed && number >= half { ones + number } else { number }
+    if signed && number >= half {
+        ones + number
+    } else {
+        number
+    }
 }

@@ -5,9 +5,7 @@ ghost use Rattle.rv64_exec.specs.Built.{is_built};
 ghost use Rattle.rv64_exec.specs.Plan.{jal_target, need_of};
 ghost use Rattle.rv64_exec.specs.Finish.{after, branched, done, jumped, next, retire, set_reg, value_of, Answers};
 
-use crate::alu::{
-    add, addw, extended, sll, sllw, slt, sltu, sra, sraw, srl, srlw, sub, subw,
-};
+use crate::alu::{add, addw, extended, sll, sllw, slt, sltu, sra, sraw, srl, srlw, sub, subw};
 use crate::needs::Answer;
 use crate::planning::{is_less, jal_target, jalr_target, reg};
 use rv64_decode::Instr;
@@ -111,9 +109,21 @@ fn complete(arch: &mut Arch, instr: &Instr, answer: Answer)
         Instr::Slli { rd, rs1, amount } => retire(rd, sll(reg(arch, rs1), u64::from(amount)), arch),
         Instr::Srli { rd, rs1, amount } => retire(rd, srl(reg(arch, rs1), u64::from(amount)), arch),
         Instr::Srai { rd, rs1, amount } => retire(rd, sra(reg(arch, rs1), u64::from(amount)), arch),
-        Instr::Slliw { rd, rs1, amount } => retire(rd, sllw(reg(arch, rs1), u64::from(amount)), arch),
-        Instr::Srliw { rd, rs1, amount } => retire(rd, srlw(reg(arch, rs1), u64::from(amount)), arch),
-        Instr::Sraiw { rd, rs1, amount } => retire(rd, sraw(reg(arch, rs1), u64::from(amount)), arch),
+        Instr::Slliw { rd, rs1, amount } => retire(
+            rd,
+            sllw(reg(arch, rs1), u64::from(amount)),
+            arch,
+        ),
+        Instr::Srliw { rd, rs1, amount } => retire(
+            rd,
+            srlw(reg(arch, rs1), u64::from(amount)),
+            arch,
+        ),
+        Instr::Sraiw { rd, rs1, amount } => retire(
+            rd,
+            sraw(reg(arch, rs1), u64::from(amount)),
+            arch,
+        ),
         Instr::Add { rd, rs1, rs2 } => retire(rd, add(reg(arch, rs1), reg(arch, rs2)), arch),
         Instr::Sll { rd, rs1, rs2 } => retire(rd, sll(reg(arch, rs1), reg(arch, rs2)), arch),
         Instr::Slt { rd, rs1, rs2 } => retire(rd, slt(reg(arch, rs1), reg(arch, rs2)), arch),

@@ -49,7 +49,7 @@ returns-in_default-start_in-clause-bad c = λ kind same.
           (ap (λ h. is_bad_start (start_among (e_entry c.args.file.now) (h ∷ []))) (sym header)
           ∙ ap (λ x. is_bad_start (start_among x (fields_of c.program_header_at-header.result ∷ []))) (sym c.u64_at-2.ensures)
           ∙ c.in_default-start_in.ensures.none refl)
-      ∙ ap Err e,
+          ∙ ap Err e,
     )
 
 pub returns-clause-ok : goal.returns-clause-ok
@@ -66,5 +66,5 @@ returns-clause-ok c =
           ∙ ap (λ e. start_among e (fields_of c.program_header_at-header.result ∷ [])) (sym c.u64_at-2.ensures)
           ∙ c.in-Some-start_in.ensures.some.0)
           c.in-Some-start_in.ensures.some.1
-      ∙ ap (λ h. Ok (record { start = c.in-Some-start_in.start; parts = part_of h ∷ [] })) (sym header),
+          ∙ ap (λ h. Ok (record { start = c.in-Some-start_in.start; parts = part_of h ∷ [] })) (sym header),
     )
