@@ -68,7 +68,11 @@ fn head_fault(file: &[u8]) -> Option<BadImage>
     if u32_at(file, 48) % 2 == 1 {
         return Some(BadImage::Compressed);
     }
-    if has_table(file) { None } else { Some(BadImage::Short) }
+    if has_table(file) {
+        None
+    } else {
+        Some(BadImage::Short)
+    }
 }
 
 /// A header of type "load" that places something in memory.
@@ -92,7 +96,11 @@ fn place_fault(header: &ProgramHeader, len: usize, pages: u32) -> Option<BadImag
         && RAM_BASE <= header.p_paddr
         && header.p_paddr <= ram_end
         && header.p_memsz <= ram_end - header.p_paddr;
-    if is_within { None } else { Some(BadImage::SegmentOutside) }
+    if is_within {
+        None
+    } else {
+        Some(BadImage::SegmentOutside)
+    }
 }
 
 /// The entry's physical address, where the header holds the entry and it is a multiple of 4.

@@ -1,11 +1,10 @@
 -- The file has one header, and each check on it stands in the order of the checks.
-use Rattle.std.proofs.Common.{◌≡◌, refl, sym, ◌∙◌, ap, subst, true, false, ℕ, ◌%◌, arith, ◌∷◌, [], Some, None, Ok, Err}
-use Rattle.std.specs.Prelude.{length, IsTrue}
-use Rattle.elf_load.specs.declared.image.BadImage.{BadImage}
+use Rattle.std.proofs.Common.{◌≡◌, refl, sym, ◌∙◌, ap, true, arith, ◌∷◌, [], Some, Ok, Err}
+use Rattle.std.specs.Prelude.{length}
 use Rattle.elf_load.specs.declared.image.BadImage.TheVariants.{EntryOutside}
-use Rattle.elf_load.specs.Header.{Header, header_at, e_phoff, e_phnum, e_entry}
+use Rattle.elf_load.specs.Header.{header_at, e_phoff, e_phnum, e_entry}
 use Rattle.elf_load.specs.Fields.{fields_of}
-use Rattle.elf_load.specs.ImageOf.{first_failed, head_checks, place_checks, is_built, image_of, is_placed, start_among, is_bad_start, part_of}
+use Rattle.elf_load.specs.ImageOf.{first_failed, head_checks, place_checks, is_placed, start_among, is_bad_start, part_of}
 use Rattle.elf_load.proofs.OneHeader.{built_by, built_refused, unbuilt_placed, accepted_one, refused_head, refused_place, refused_start}
 use Rattle.elf_load.proofs.parsing.the_part.Goals as goal
 
@@ -49,7 +48,7 @@ returns-in_default-start_in-clause-bad c = λ kind same.
           (ap (λ h. is_bad_start (start_among (e_entry c.args.file.now) (h ∷ []))) (sym header)
           ∙ ap (λ x. is_bad_start (start_among x (fields_of c.program_header_at-header.result ∷ []))) (sym c.u64_at-2.ensures)
           ∙ c.in_default-start_in.ensures.none refl)
-      ∙ ap Err e,
+          ∙ ap Err e,
     )
 
 pub returns-clause-ok : goal.returns-clause-ok
@@ -66,5 +65,5 @@ returns-clause-ok c =
           ∙ ap (λ e. start_among e (fields_of c.program_header_at-header.result ∷ [])) (sym c.u64_at-2.ensures)
           ∙ c.in-Some-start_in.ensures.some.0)
           c.in-Some-start_in.ensures.some.1
-      ∙ ap (λ h. Ok (record { start = c.in-Some-start_in.start; parts = part_of h ∷ [] })) (sym header),
+          ∙ ap (λ h. Ok (record { start = c.in-Some-start_in.start; parts = part_of h ∷ [] })) (sym header),
     )
