@@ -1,11 +1,10 @@
 -- What the checks of a file with one program header come to.
-use Rattle.std.proofs.Common.{◌≡◌, refl, ℕ, ◌%◌, List, [], ◌∷◌, ◌++◌, map, Some, None, Option, Ok, Err, true, false, Bool, not, ◌&&◌, ◌||◌, ap, sym, ◌∙◌, subst}
-use Rattle.std.specs.Prelude.{◌≢◌, ◌==◌, IsTrue, if◌then◌else◌, filter, length, is_none}
+use Rattle.std.proofs.Common.{◌≡◌, refl, ℕ, ◌%◌, List, [], ◌∷◌, ◌++◌, map, Some, None, Option, Ok, Err, true, false, Bool, not, ◌&&◌, ◌||◌, ap, ◌∙◌}
+use Rattle.std.specs.Prelude.{◌==◌, if◌then◌else◌, filter, length, is_none}
 use Rattle.std.specs.List.{list_all}
 use Rattle.std.proofs.lemmas.Bool.{eq-eqb, ne_eqb}
 use Rattle.elf_load.specs.declared.image.BadImage.{BadImage}
 use Rattle.elf_load.specs.declared.image.BadImage.TheVariants.{EntryOutside, Overlap}
-use Rattle.elf_load.specs.Loaded.{Loaded}
 use Rattle.elf_load.specs.Header.{Header, headers, headers_from, header_at, e_phoff, e_phnum, e_entry}
 use Rattle.elf_load.specs.ImageOf.{Check, check, first_failed, head_checks, place_checks, all_place_checks, checks, placed, is_placed, overlaps}
 use Rattle.elf_load.specs.ImageOf.{start_among, start_of, is_bad_start, start_or_zero, part_of, loaded, answer_to, image_of, is_built, passes}

@@ -2,7 +2,7 @@
 use crate::guests::{HELLO, RAM, elf};
 use crate::whole::{NO_FAULTS, PLAIN, Want, call, compare, files};
 use std::test::Fail;
-use tlbvm::{Status, code, status_line};
+use tlbvm::{BadImage, Status, code, status_line};
 
 /// RAM's last four bytes.
 const LAST: u64 = 0x803f_fffc;
@@ -61,8 +61,6 @@ fn machines_end(rt: HostRuntime) -> Result<(), Fail> {
     let alloc = rt.alloc();
     let add = [0x04f0_0313]; // addi x6, x0, 'O'
     let ecall = [0x0000_0073];
-    // lui x5, 0x100; lui x6, 0x73; addi x6, x6, 0x333; sw x6, 0(x5)
-    let fail = [0x0010_02b7, 0x0007_3337, 0x3333_0313, 0x0062_a023];
     let no_device = [0x0000_12b7, 0x0062_8023]; // lui x5, 1; sb x6, 0(x5)
     let far = [0x8000_02b7, 0x0062_8023]; // lui x5, 0x80000, which extends the sign; sb x6, 0(x5)
     let uart_word = [0x1000_02b7, 0x0062_a023]; // lui x5, 0x10000; sw x6, 0(x5)
@@ -103,7 +101,6 @@ fn machines_end(rt: HostRuntime) -> Result<(), Fail> {
         at_start("a zero word", &add, b"turn 0 2\n", UNBUILT),
         at_the_end("RAM's last word", &add, b"turn 0 1\n", order_ended(b"")),
         at_the_end("behind RAM", &add, b"turn 0 2\n", UNBUILT),
-        at_start("a fail", &fail, b"turn 0 100\n", UNBUILT),
         at_start("no device", &no_device, b"turn 0 100\n", UNBUILT),
         at_start("far above RAM", &far, b"turn 0 100\n", UNBUILT),
         at_start("a word to the UART", &uart_word, b"turn 0 100\n", UNBUILT),
@@ -135,6 +132,30 @@ fn machines_end(rt: HostRuntime) -> Result<(), Fail> {
     Ok(())
 }
 
+// A store of a word whose low half is 0x3333 fails with the high half; the fourth turn does it.
+#[test]
+fn guests_fail(rt: HostRuntime) -> Result<(), Fail> {
+    let alloc = rt.alloc();
+    for (lui, failed, log) in [
+        (0x0007_3337, 7, "end: fail 7\n"), // lui x6, 0x73
+        (0x0000_3337, 0, "end: fail 0\n"), // lui x6, 3
+        (0xffff_3337, 65535, "end: fail 65535\n"), // lui x6, 0xffff3
+    ] {
+        // lui x5, 0x100; the lui; addi x6, x6, 0x333; sw x6, 0(x5)
+        let words = [0x0010_02b7, lui, 0x3333_0313, 0x0062_a023];
+        let files = files(alloc, elf(alloc, RAM, &words)?, b"turn 0 4".to_vec(alloc)?)?;
+        let ended = call(alloc, PLAIN, files, NO_FAULTS)?;
+        let want = Want {
+            status: Status::GuestFailed(failed),
+            out: b"",
+            log: log.as_bytes(),
+        };
+        compare(&rt, &ended, want, log);
+        assert_eq!(rt; code(&ended.status), 11);
+    }
+    Ok(())
+}
+
 #[test]
 fn statuses_have_codes_and_lines(rt: HostRuntime) {
     for (status, exit, line) in [
@@ -148,13 +169,50 @@ fn statuses_have_codes_and_lines(rt: HostRuntime) {
         (Status::TooLong, 4, "file too long"),
         (Status::WriteFault, 9, "write failed"),
         (Status::NoMemory, 10, "out of memory"),
-        (Status::GuestFailed(7), 11, "guest failed: 7"),
-        (Status::Limit(3), 12, "limit: hart 3"),
         (Status::OutFull, 13, "output full"),
         (Status::AllStopped, 14, "all harts stopped"),
         (Status::OrderEnd, 15, "order ended"),
         (Status::Stopped, 16, "stopped"),
         (Status::Unbuilt, 17, "not built"),
+    ] {
+        assert_eq!(rt; code(&status), exit, "{line}");
+        assert_eq!(rt; status_line(&status).as_str(), line);
+    }
+}
+
+#[test]
+fn numbers_stand_in_lines(rt: HostRuntime) {
+    for (status, exit, line) in [
+        (Status::BadImage(BadImage::Short), 5, "bad image: kind 1"),
+        (Status::BadImage(BadImage::NotElf), 5, "bad image: kind 2"),
+        (Status::BadImage(BadImage::NotRv64), 5, "bad image: kind 3"),
+        (Status::BadImage(BadImage::NotExec), 5, "bad image: kind 4"),
+        (
+            Status::BadImage(BadImage::Compressed),
+            5,
+            "bad image: kind 5",
+        ),
+        (
+            Status::BadImage(BadImage::SegmentOutside),
+            5,
+            "bad image: kind 6",
+        ),
+        (Status::BadImage(BadImage::Overlap), 5, "bad image: kind 7"),
+        (
+            Status::BadImage(BadImage::EntryOutside),
+            5,
+            "bad image: kind 8",
+        ),
+        (Status::BadOrder(1), 6, "bad order: line 1"),
+        (
+            Status::BadOrder(18446744073709551615),
+            6,
+            "bad order: line 18446744073709551615",
+        ),
+        (Status::GuestFailed(0), 11, "guest failed: 0"),
+        (Status::GuestFailed(7), 11, "guest failed: 7"),
+        (Status::GuestFailed(65535), 11, "guest failed: 65535"),
+        (Status::Limit(3), 12, "limit: hart 3"),
     ] {
         assert_eq!(rt; code(&status), exit, "{line}");
         assert_eq!(rt; status_line(&status).as_str(), line);

@@ -1,11 +1,10 @@
 -- The file has one header, and each check on it stands in the order of the checks.
-use Rattle.std.proofs.Common.{◌≡◌, refl, sym, ◌∙◌, ap, subst, true, false, ℕ, ◌%◌, arith, ◌∷◌, [], Some, None, Ok, Err}
-use Rattle.std.specs.Prelude.{length, IsTrue}
-use Rattle.elf_load.specs.declared.image.BadImage.{BadImage}
+use Rattle.std.proofs.Common.{◌≡◌, refl, sym, ◌∙◌, ap, true, arith, ◌∷◌, [], Some, Ok, Err}
+use Rattle.std.specs.Prelude.{length}
 use Rattle.elf_load.specs.declared.image.BadImage.TheVariants.{EntryOutside}
-use Rattle.elf_load.specs.Header.{Header, header_at, e_phoff, e_phnum, e_entry}
+use Rattle.elf_load.specs.Header.{header_at, e_phoff, e_phnum, e_entry}
 use Rattle.elf_load.specs.Fields.{fields_of}
-use Rattle.elf_load.specs.ImageOf.{first_failed, head_checks, place_checks, is_built, image_of, is_placed, start_among, is_bad_start, part_of}
+use Rattle.elf_load.specs.ImageOf.{first_failed, head_checks, place_checks, is_placed, start_among, is_bad_start, part_of}
 use Rattle.elf_load.proofs.OneHeader.{built_by, built_refused, unbuilt_placed, accepted_one, refused_head, refused_place, refused_start}
 use Rattle.elf_load.proofs.parsing.the_part.Goals as goal
 
