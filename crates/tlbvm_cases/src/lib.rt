@@ -1,0 +1,18 @@
+//! Tests that cross crates: whole calls of the program's top with files and output in memory, and the machine itself.
+//! Expected values come from the RISC-V ISA manual and from what the program promises.
+#![tactic(auto)]
+
+#[cfg(test)]
+mod faults;
+#[cfg(test)]
+mod guests;
+#[cfg(test)]
+mod machine;
+#[cfg(test)]
+mod program;
+#[cfg(test)]
+mod refusals;
+#[cfg(test)]
+mod stores;
+#[cfg(test)]
+mod whole;

@@ -1,0 +1,162 @@
+// Runs of whole programs to their end, and what the program says of each end.
+use crate::guests::{HELLO, RAM, elf};
+use crate::whole::{NO_FAULTS, PLAIN, Want, call, compare, files};
+use std::test::Fail;
+use tlbvm::{Status, code, status_line};
+
+/// RAM's last four bytes.
+const LAST: u64 = 0x803f_fffc;
+
+#[derive(Clone, Copy)]
+struct Case<'a> {
+    what: &'a str,
+    place: u64,
+    words: &'a [u32],
+    order: &'a [u8],
+    want: Want<'a>,
+}
+
+const PASS: Want<'static> = Want {
+    status: Status::Done,
+    out: b"OK\n",
+    log: b"end: pass\n",
+};
+
+const UNBUILT: Want<'static> = Want {
+    status: Status::Unbuilt,
+    out: b"",
+    log: b"end: not built\n",
+};
+
+fn order_ended(out: &[u8]) -> Want<'_> {
+    Want {
+        status: Status::OrderEnd,
+        out,
+        log: b"end: order ended\n",
+    }
+}
+
+fn at_start<'a>(what: &'a str, words: &'a [u32], order: &'a [u8], want: Want<'a>) -> Case<'a> {
+    Case {
+        what,
+        place: RAM,
+        words,
+        order,
+        want,
+    }
+}
+
+fn at_the_end<'a>(what: &'a str, words: &'a [u32], order: &'a [u8], want: Want<'a>) -> Case<'a> {
+    Case {
+        what,
+        place: LAST,
+        words,
+        order,
+        want,
+    }
+}
+
+#[test]
+fn machines_end(rt: HostRuntime) -> Result<(), Fail> {
+    let alloc = rt.alloc();
+    let add = [0x04f0_0313]; // addi x6, x0, 'O'
+    let ecall = [0x0000_0073];
+    // lui x5, 0x100; lui x6, 0x73; addi x6, x6, 0x333; sw x6, 0(x5)
+    let fail = [0x0010_02b7, 0x0007_3337, 0x3333_0313, 0x0062_a023];
+    let no_device = [0x0000_12b7, 0x0062_8023]; // lui x5, 1; sb x6, 0(x5)
+    let far = [0x8000_02b7, 0x0062_8023]; // lui x5, 0x80000, which extends the sign; sb x6, 0(x5)
+    let uart_word = [0x1000_02b7, 0x0062_a023]; // lui x5, 0x10000; sw x6, 0(x5)
+    // lui x5, 0x7ffff; addi x5, x5, 2047, twice; sw x0, 0x107(x5), which is 0x80000105
+    let across = [0x7fff_f2b7, 0x7ff2_8293, 0x7ff2_8293, 0x1002_a3a3];
+    // lui x5, 0x10000; addi x6, x0, 'O'; sb x6, 3(x5); sb x6, 0(x5)
+    let uart_3 = [0x1000_02b7, 0x04f0_0313, 0x0062_81a3, 0x0062_8023];
+    // lui x5, 0x100; addi x6, x0, 7; sw x6, 0(x5); lui x6, 5; addi x6, x6, 0x555; sw x6, 0(x5)
+    let seven = [
+        0x0010_02b7,
+        0x0070_0313,
+        0x0062_a023,
+        0x0000_5337,
+        0x5553_0313,
+        0x0062_a023,
+    ];
+    let silent = Want { out: b"", ..PASS };
+    let cases = [
+        at_start("hello", &HELLO, b"turn 0 100\n", PASS),
+        at_start("hello, no line feed", &HELLO, b"turn 0 100", PASS),
+        at_start("hello, the most turns", &HELLO, b"turn 0 1000000\n", PASS),
+        at_start("hello, its own turns", &HELLO, b"turn 0 11\n", PASS),
+        at_start(
+            "hello, 10 turns",
+            &HELLO,
+            b"turn 0 10\n",
+            order_ended(b"OK\n"),
+        ),
+        at_start("hello, 5 turns", &HELLO, b"turn 0 5\n", order_ended(b"OK")),
+        at_start(
+            "20 digits",
+            &HELLO,
+            b"turn 0 00000000000000000005",
+            order_ended(b"OK"),
+        ),
+        at_start("ecall", &ecall, b"turn 0 1\n", UNBUILT),
+        at_start("before a zero word", &add, b"turn 0 1\n", order_ended(b"")),
+        at_start("a zero word", &add, b"turn 0 2\n", UNBUILT),
+        at_the_end("RAM's last word", &add, b"turn 0 1\n", order_ended(b"")),
+        at_the_end("behind RAM", &add, b"turn 0 2\n", UNBUILT),
+        at_start("a fail", &fail, b"turn 0 100\n", UNBUILT),
+        at_start("no device", &no_device, b"turn 0 100\n", UNBUILT),
+        at_start("far above RAM", &far, b"turn 0 100\n", UNBUILT),
+        at_start("a word to the UART", &uart_word, b"turn 0 100\n", UNBUILT),
+        at_start("over two words", &across, b"turn 0 100\n", UNBUILT),
+        at_start(
+            "another register of the UART",
+            &uart_3,
+            b"turn 0 4\n",
+            order_ended(b"O"),
+        ),
+        at_start(
+            "a finisher value without effect",
+            &seven,
+            b"turn 0 100\n",
+            silent,
+        ),
+    ];
+    for Case {
+        what,
+        place,
+        words,
+        order,
+        want,
+    } in cases {
+        let files = files(alloc, elf(alloc, place, words)?, order.to_vec(alloc)?)?;
+        let ended = call(alloc, PLAIN, files, NO_FAULTS)?;
+        compare(&rt, &ended, want, what);
+    }
+    Ok(())
+}
+
+#[test]
+fn statuses_have_codes_and_lines(rt: HostRuntime) {
+    for (status, exit, line) in [
+        (Status::Done, 0, "done"),
+        (
+            Status::Usage,
+            2,
+            "usage: tlbvm plain, sched, run, churn, asm, dis or gen",
+        ),
+        (Status::ReadFault, 3, "read failed"),
+        (Status::TooLong, 4, "file too long"),
+        (Status::WriteFault, 9, "write failed"),
+        (Status::NoMemory, 10, "out of memory"),
+        (Status::GuestFailed(7), 11, "guest failed: 7"),
+        (Status::Limit(3), 12, "limit: hart 3"),
+        (Status::OutFull, 13, "output full"),
+        (Status::AllStopped, 14, "all harts stopped"),
+        (Status::OrderEnd, 15, "order ended"),
+        (Status::Stopped, 16, "stopped"),
+        (Status::Unbuilt, 17, "not built"),
+    ] {
+        assert_eq!(rt; code(&status), exit, "{line}");
+        assert_eq!(rt; status_line(&status).as_str(), line);
+    }
+}
