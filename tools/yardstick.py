@@ -1,0 +1,150 @@
+#!/usr/bin/env python3
+"""Compares `encode` and `decode` with GNU binutils' assembler, over every instruction line with operands at their edges.
+
+The assembler makes a word of each line of a listing; `decode_words` reads the word back, and prints the word that `encode`
+makes of it and the instruction as text, which has to be the line again. Then words with random operands: where `decode`
+finds an instruction, the assembler makes the word again of its text. Skipped, with status 0, where there are no binutils
+for RISC-V.
+"""
+import itertools
+import os
+import pathlib
+import random
+import shutil
+import subprocess
+import sys
+import tempfile
+
+TOP = pathlib.Path(__file__).resolve().parent.parent
+PROGRAM = TOP / "crates/decode_words"
+PREFIXES = ["riscv64-unknown-elf-", "riscv64-linux-gnu-", "riscv64-elf-"]
+ARCHITECTURE = "-march=rv64ima_zicsr_zifencei"
+REGISTERS = [0, 1, 15, 31]
+IMMEDIATES = [-2048, -1, 0, 1, 2047]
+RANDOM_WORDS = 100_000
+
+REGISTER_REGISTER = (
+    "add sub sll slt sltu xor srl sra or and addw subw sllw srlw sraw"
+    " mul mulh mulhsu mulhu div divu rem remu mulw divw divuw remw remuw"
+).split()
+ATOMICS = "sc amoswap amoadd amoxor amoand amoor amomin amomax amominu amomaxu".split()
+FENCE_SETS = ["".join(s) for n in range(1, 5) for s in itertools.combinations("iorw", n)]
+
+
+def registers_and(count, last):
+    """Every choice of so many registers with each of the last operands."""
+    return [(*choice, value) for choice in itertools.product(REGISTERS, repeat=count) for value in last]
+
+
+def fence_bits(letters):
+    """A fence's set of accesses: I, O, R and W are bits 3 to 0."""
+    return sum(8 >> "iorw".index(letter) for letter in letters)
+
+
+def listing():
+    """Pairs of the assembler's text and of what `decode_words` is to print."""
+    lines = []
+    for name in ["lui", "auipc"]:
+        lines += [f"{name} x{d}, {z:#x}" for d, z in registers_and(1, [0, 1, 0x7FFFF, 0x80000, 0xFFFFF])]
+    lines += [f"jal x{d}, .{z:+}" for d, z in registers_and(1, [-1048576, -2, 0, 2, 0x7FE, 0x800, 0xFF000, 1048574])]
+    for name in "beq bne blt bge bltu bgeu".split():
+        lines += [f"{name} x{p}, x{q}, .{z:+}" for p, q, z in registers_and(2, [-4096, -2, 0, 2, 0x800, 0x7E0, 4094])]
+    for name in "jalr lb lh lw ld lbu lhu lwu sb sh sw sd".split():
+        lines += [f"{name} x{d}, {z}(x{r})" for d, r, z in registers_and(2, IMMEDIATES)]
+    for name in "addi slti sltiu xori ori andi addiw".split():
+        lines += [f"{name} x{d}, x{r}, {z}" for d, r, z in registers_and(2, IMMEDIATES)]
+    for name, amounts in [("slli srli srai", [0, 1, 31, 32, 63]), ("slliw srliw sraiw", [0, 1, 31])]:
+        for shift in name.split():
+            lines += [f"{shift} x{d}, x{r}, {k}" for d, r, k in registers_and(2, amounts)]
+    for name in REGISTER_REGISTER:
+        lines += [f"{name} x{d}, x{p}, x{q}" for d, p, q in registers_and(2, REGISTERS)]
+    lines += ["ecall", "ebreak", "sret", "wfi"]
+    lines += [f"sfence.vma x{p}, x{q}" for p, q in registers_and(1, REGISTERS)]
+    for name in "csrrw csrrs csrrc".split():
+        lines += [f"{name} x{d}, {c:#x}, x{r}" for d, r, c in registers_and(2, [0, 0x100, 0x180, 0xFFF])]
+    for name in "csrrwi csrrsi csrrci".split():
+        lines += [f"{name} x{d}, {c:#x}, {v}" for d, v, c in registers_and(2, [0, 0x100, 0x180, 0xFFF])]
+    for width, order in itertools.product([".w", ".d"], ["", ".aq", ".rl", ".aqrl"]):
+        lines += [f"lr{width}{order} x{d}, (x{r})" for d, r in registers_and(1, REGISTERS)]
+        for name in ATOMICS:
+            lines += [f"{name}{width}{order} x{d}, x{q}, (x{r})" for d, q, r in registers_and(2, REGISTERS)]
+    pairs = [(line, line) for line in lines]
+    for before, behind in itertools.product(FENCE_SETS, repeat=2):
+        bits = 16 * fence_bits(before) + fence_bits(behind)
+        pairs.append((f"fence {before}, {behind}", f".insn i 0x0f, 0, x0, x0, {bits}"))
+    # fm is 8, and each set has R and W
+    pairs.append(("fence.tso", f".insn i 0x0f, 0, x0, x0, {0x833 - 0x1000}"))
+    pairs.append(("fence.i", ".insn i 0x0f, 1, x0, x0, 0"))
+    return pairs
+
+
+class Assembler:
+    def __init__(self, prefix, folder):
+        self.prefix, self.folder = prefix, folder
+
+    def words(self, lines):
+        """The words of these lines, one each."""
+        source, made, flat = (f"{self.folder}/listing.{kind}" for kind in ("s", "o", "bin"))
+        text = "\n".join([".option norvc", ".option norelax", *lines, ""])
+        pathlib.Path(source).write_text(text)
+        subprocess.run([self.prefix + "as", ARCHITECTURE, "-o", made, source], check=True)
+        subprocess.run([self.prefix + "objcopy", "-O", "binary", "-j", ".text", made, flat], check=True)
+        code = pathlib.Path(flat).read_bytes()
+        words = [int.from_bytes(code[at : at + 4], "little") for at in range(0, len(code), 4)]
+        if len(words) != len(lines):
+            sys.exit(f"yardstick: {len(lines)} lines made {len(words)} words")
+        return words
+
+
+def build():
+    """Proves and builds the program, where that isn't done."""
+    os.environ["PATH"] += ":/opt/rattle/bin"
+    for folder, command in [(TOP / "crates/rv64_decode", ["check"]), (PROGRAM, ["run", "--backend", "llvm"])]:
+        done = subprocess.run(["rt", *command], cwd=folder, stdin=subprocess.DEVNULL, capture_output=True, text=True)
+        if done.returncode != 0:
+            sys.exit(done.stdout + done.stderr)
+
+
+def read_back(words):
+    """What `decode_words` prints of each word."""
+    text = "".join(f"{word:08x}\n" for word in words)
+    done = subprocess.run([PROGRAM / "out/decode_words"], input=text, capture_output=True, text=True, check=True)
+    return done.stdout.splitlines()
+
+
+def compare(what, pairs):
+    """Compares lists, and ends with the first that differ."""
+    wrong = [(wanted, seen) for wanted, seen in pairs if wanted != seen]
+    for wanted, seen in wrong[:10]:
+        print(f"yardstick: {what}: wanted {wanted}, and came to {seen}", file=sys.stderr)
+    if wrong:
+        sys.exit(f"yardstick: {what}: {len(wrong)} of {len(pairs)} differ")
+    print(f"yardstick: {what}: {len(pairs)} agree")
+
+
+def random_words():
+    """Words under the opcodes that are used, of which most are no instruction's."""
+    opcodes = [0x03, 0x0F, 0x13, 0x17, 0x1B, 0x23, 0x2F, 0x33, 0x37, 0x3B, 0x63, 0x67, 0x6F, 0x73]
+    source = random.Random(64)
+    return [source.getrandbits(25) << 7 | source.choice(opcodes) for _ in range(RANDOM_WORDS)]
+
+
+def main():
+    prefix = next((p for p in PREFIXES if shutil.which(p + "as") and shutil.which(p + "objcopy")), None)
+    if prefix is None:
+        print("yardstick: skipped: there are no GNU binutils for RISC-V")
+        return
+    build()
+    with tempfile.TemporaryDirectory() as folder:
+        assembler = Assembler(prefix, folder)
+        pairs = listing()
+        words = assembler.words([line for line, _ in pairs])
+        wanted = [f"{word:08x} {text}" for word, (_, text) in zip(words, pairs)]
+        compare("the listing", list(zip(wanted, read_back(words))))
+        found = [line.split(" ", 1) for line in read_back(random_words()) if not line.endswith(" none")]
+        words = assembler.words([text for _, text in found])
+        compare("random words", [(word, f"{made:08x}") for (word, _), made in zip(found, words)])
+
+
+if __name__ == "__main__":
+    main()
