@@ -2,6 +2,8 @@
 ghost use Rattle.std.specs.Prelude.{◌≡◌};
 ghost use Rattle.rv64_priv.specs.Csr.{regime};
 
+use std::marker::Model;
+
 /// What an access does.
 #[derive(Clone, Copy, Debug, PartialEq, Eq)]
 pub enum Kind {
@@ -44,6 +46,18 @@ pub struct Arch {
     pub stval: u64,
     pub satp: u64,
     pub hold: Option<Hold>,
+}
+
+impl Model for Arch {
+    ghost use Rattle.rv64_priv.specs.State.{Arch as TheArch, arch_of, inside_of, IsLegal};
+
+    ghost Value = { TheArch };
+
+    ghost view = { arch_of };
+
+    ghost inverse = { inside_of };
+
+    ghost invariant = { IsLegal };
 }
 
 /// What the hart's translations depend on now.

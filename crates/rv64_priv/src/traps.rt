@@ -1,36 +1,15 @@
 // Traps into supervisor mode and the return from them (Privileged Architecture, "Supervisor-Level ISA").
-ghost use Rattle.std.specs.Prelude.{◌≡◌, ◌<◌, ℕ, Bool, false};
-ghost use Rattle.rv64_priv.specs.Bits.{is_set, bit_if};
-ghost use Rattle.rv64_priv.specs.Trap.{handler, trapped, returned};
+ghost use Rattle.std.specs.Prelude.{◌≡◌, ℕ, Bool, false};
+ghost use Rattle.rv64_priv.specs.Trap.{access_fault, handler, page_fault, returned, takes_interrupts, trapped};
 
-use crate::state::Arch;
+use crate::bits::{MXR, SIE, SPIE, SPP, SUM, bit_if, is_set};
+use crate::state::{Arch, Kind};
 
-const SIE: u32 = 1;
-
-const SPIE: u32 = 5;
-
-const SPP: u32 = 8;
-
-const SUM: u32 = 18;
-
-const MXR: u32 = 19;
+/// The supervisor's software interrupt, as a bit of sie.
+const SOFTWARE: u32 = 1;
 
 /// Bit 63 of scause: the trap is an interrupt.
 const INTERRUPT: u64 = 1 << 63;
-
-fn is_set(value: u64, bit: u32) -> bool
-    requires { bit < 64 }
-    ensures { result ≡ is_set value bit }
-{
-    (value >> bit) % 2 == 1
-}
-
-fn bit_if(flag: bool, bit: u32) -> u64
-    requires { bit < 64 }
-    ensures { result ≡ bit_if flag bit }
-{
-    if flag { 1 << bit } else { 0 }
-}
 
 fn handler(arch: &Arch, cause: u64) -> u64
     ensures { result ≡ handler arch.now cause }
@@ -44,6 +23,7 @@ fn handler(arch: &Arch, cause: u64) -> u64
 }
 
 /// Takes a trap: an exception with its cause and value for stval, or an interrupt, whose cause has bit 63.
+#[inline(never)]
 pub fn trap(arch: &mut Arch, cause: u64, tval: u64)
     ensures { arch.new ≡ trapped arch.old cause tval }
 {
@@ -62,6 +42,7 @@ pub fn trap(arch: &mut Arch, cause: u64, tval: u64)
 }
 
 /// Returns from a trap, as SRET in supervisor mode.
+#[inline(never)]
 pub fn sret(arch: &mut Arch)
     ensures { arch.new ≡ returned arch.old }
 {
@@ -73,4 +54,34 @@ pub fn sret(arch: &mut Arch)
     arch.user = !is_set(status, SPP);
     arch.pc = arch.sepc;
     arch.hold = None;
+}
+
+/// The supervisor's software interrupt is enabled, by sie and, in supervisor mode, by SIE of sstatus.
+#[inline]
+pub fn takes_interrupts(arch: &Arch) -> bool
+    ensures { result ≡ takes_interrupts arch.now }
+{
+    is_set(arch.sie, SOFTWARE) && (arch.user || is_set(arch.sstatus, SIE))
+}
+
+/// The cause of a page fault.
+pub fn page_fault(kind: Kind) -> u64
+    ensures { result ≡ page_fault kind }
+{
+    match kind {
+        Kind::Fetch => 12,
+        Kind::Load => 13,
+        Kind::Store => 15,
+    }
+}
+
+/// The cause of an access fault: no memory or device is at the address.
+pub fn access_fault(kind: Kind) -> u64
+    ensures { result ≡ access_fault kind }
+{
+    match kind {
+        Kind::Fetch => 1,
+        Kind::Load => 5,
+        Kind::Store => 7,
+    }
 }
