@@ -1,11 +1,12 @@
--- The instructions that `plan` and `finish` serve so far: the base ISA but for system instructions (RISC-V Unprivileged ISA, "RV32I Base
--- Integer Instruction Set", "RV64I Base Integer Instruction Set"), and FENCE.I.
+-- The instructions that `plan` and `finish` serve so far: the base ISA (RISC-V Unprivileged ISA, "RV32I Base Integer Instruction Set",
+-- "RV64I Base Integer Instruction Set"), FENCE.I, Zicsr, and the supervisor's (Privileged Architecture, "Supervisor Instructions").
 use Rattle.std.specs.Prelude.{ℕ, Bool, true, false, ◌||◌, ◌==◌, IsTrue}
 use Rattle.rv64_decode.specs.declared.instruction.Instr.{Instr}
 use Rattle.rv64_decode.specs.declared.instruction.Instr.TheVariants.{Lui, Auipc, Jal, Jalr, Beq, Bne, Blt, Bge, Bltu, Bgeu, Lb, Lh, Lw, Ld, Lbu, Lhu}
 use Rattle.rv64_decode.specs.declared.instruction.Instr.TheVariants.{Lwu, Sb, Sh, Sw, Sd, Addi, Slti, Sltiu, Xori, Ori, Andi, Addiw, Slli, Srli, Srai}
 use Rattle.rv64_decode.specs.declared.instruction.Instr.TheVariants.{Slliw, Srliw, Sraiw, Add, Sll, Slt, Sltu, Xor, Srl, Or, And, Sub, Sra, Addw, Sllw}
-use Rattle.rv64_decode.specs.declared.instruction.Instr.TheVariants.{Srlw, Subw, Sraw, Fence, Fencei}
+use Rattle.rv64_decode.specs.declared.instruction.Instr.TheVariants.{Srlw, Subw, Sraw, Fence, Fencei, Ecall, Ebreak, Sret, Wfi, Sfencevma, Csrrw, Csrrs, Csrrc}
+use Rattle.rv64_decode.specs.declared.instruction.Instr.TheVariants.{Csrrwi, Csrrsi, Csrrci}
 use Rattle.rv64_exec.specs.declared.needs.Need.{Need}
 use Rattle.rv64_exec.specs.declared.needs.Answer.{Answer}
 
@@ -61,9 +62,20 @@ is_built (Subw d p q) = true
 is_built (Sraw d p q) = true
 is_built (Fence rest) = true
 is_built (Fencei rest) = true
+is_built Ecall = true
+is_built Ebreak = true
+is_built Sret = true
+is_built Wfi = true
+is_built (Sfencevma p q) = true
+is_built (Csrrw d r c) = true
+is_built (Csrrs d r c) = true
+is_built (Csrrc d r c) = true
+is_built (Csrrwi d v c) = true
+is_built (Csrrsi d v c) = true
+is_built (Csrrci d v c) = true
 is_built _ = false
 
--- they need nothing, a load or a store of 1, 2, 4 or 8 bytes, or a trap
+-- they need no atomic access, and a load or a store is of 1, 2, 4 or 8 bytes
 abbrev pub is_width : ℕ → Bool
 is_width width = (width == 1) || (width == 2) || (width == 4) || (width == 8)
 
@@ -71,6 +83,9 @@ abbrev pub IsBuiltNeed : Need → Type 0
 IsBuiltNeed Need.Nothing = Unit {0}
 IsBuiltNeed (Need.Load va width signed) = IsTrue (is_width width)
 IsBuiltNeed (Need.Store va width value) = IsTrue (is_width width)
+IsBuiltNeed (Need.Ipi op) = Unit {0}
+IsBuiltNeed (Need.Flush what) = Unit {0}
+IsBuiltNeed Need.Sbi = Unit {0}
 IsBuiltNeed (Need.Trap cause tval) = Unit {0}
 IsBuiltNeed _ = ⊥
 

@@ -1,15 +1,16 @@
 // What an instruction leaves of its hart, once the machine has answered its need.
-ghost use Rattle.std.specs.Prelude.{◌≡◌, ◌<◌, IsTrue};
+ghost use Rattle.std.specs.Prelude.{◌≡◌, ◌<◌, ◌%◌, IsTrue};
 ghost use Rattle.rv64_decode.specs.Encoding.{IsInRange};
-ghost use Rattle.rv64_exec.specs.Built.{is_built};
+ghost use Rattle.rv64_exec.specs.Built.{is_built, IsDone};
 ghost use Rattle.rv64_exec.specs.Plan.{jal_target, need_of};
-ghost use Rattle.rv64_exec.specs.Finish.{after, branched, done, jumped, next, retire, set_reg, value_of, Answers};
+ghost use Rattle.rv64_exec.specs.Finish.{after, branched, called, done, jumped, next, retire, set_reg, value_of, Answers};
 
 use crate::alu::{add, addw, extended, sll, sllw, slt, sltu, sra, sraw, srl, srlw, sub, subw};
+use crate::csrs::{CsrAccess, CsrOp};
 use crate::needs::Answer;
 use crate::planning::{is_less, jal_target, jalr_target, reg};
 use rv64_decode::Instr;
-use rv64_priv::{Arch, trap};
+use rv64_priv::{Arch, sret, trap};
 
 #[inline]
 fn set_reg(arch: &mut Arch, rd: u8, value: u64)
@@ -29,7 +30,7 @@ fn next(arch: &mut Arch)
 }
 
 #[inline]
-fn retire(rd: u8, value: u64, arch: &mut Arch)
+pub(crate) fn retire(rd: u8, value: u64, arch: &mut Arch)
     requires { rd < 32 }
     ensures { arch.new ≡ retire arch.old rd value }
 {
@@ -40,7 +41,8 @@ fn retire(rd: u8, value: u64, arch: &mut Arch)
 /// Puts the address of the next instruction into a register, and goes to the target.
 #[inline]
 fn jump(rd: u8, target: u64, arch: &mut Arch)
-    requires { rd < 32 }
+    requires register { rd < 32 }
+    requires aligned { target % 4 ≡ 0 }
     ensures { arch.new ≡ jumped arch.old rd target }
 {
     let link = arch.pc.wrapping_add(4);
@@ -50,6 +52,7 @@ fn jump(rd: u8, target: u64, arch: &mut Arch)
 
 #[inline]
 fn branch(taken: bool, imm: i32, arch: &mut Arch)
+    requires { IsTrue taken → jal_target arch.old imm % 4 ≡ 0 }
     ensures { arch.new ≡ branched arch.old taken (jal_target arch.old imm) }
 {
     if taken {
@@ -61,7 +64,7 @@ fn branch(taken: bool, imm: i32, arch: &mut Arch)
 
 /// The number in an answer, 0 where there is none.
 #[inline]
-fn value_of(answer: Answer) -> u64
+pub(crate) fn value_of(answer: Answer) -> u64
     ensures { result ≡ value_of answer }
 {
     match answer {
@@ -74,11 +77,32 @@ fn value_of(answer: Answer) -> u64
     }
 }
 
-#[inline]
-#[tactic(auto, unfolding(crate::specs::Finish::done))]
+/// Puts the answer of an SBI call into a0 and a1.
+fn call(answer: Answer, arch: &mut Arch)
+    ensures { arch.new ≡ called arch.old answer }
+{
+    match answer {
+        Answer::Pair { error, value } => {
+            set_reg(arch, 10, error.cast_unsigned());
+            set_reg(arch, 11, value);
+        }
+        Answer::Single(value) => set_reg(arch, 10, value),
+        Answer::Nothing
+        | Answer::Value(_)
+        | Answer::LrValue { .. }
+        | Answer::Sc { .. }
+        | Answer::Fault { .. } => {}
+    }
+    next(arch);
+}
+
+#[inline(always)]
+#[tactic(auto, using(crate::proofs::Kept::jump_aligned, crate::proofs::Kept::taken_aligned), unfolding(crate::specs::Finish::done, crate::specs::Plan::need_of))]
 fn complete(arch: &mut Arch, instr: &Instr, answer: Answer)
     requires range { IsInRange instr.now }
     requires built { IsTrue (is_built instr.now) }
+    requires done { IsDone answer }
+    requires form { Answers (need_of arch.old instr.now) answer }
     ensures { arch.new ≡ done arch.old instr.now answer }
 {
     match *instr {
@@ -144,7 +168,30 @@ fn complete(arch: &mut Arch, instr: &Instr, answer: Answer)
         | Instr::Sw { .. }
         | Instr::Sd { .. }
         | Instr::Fence { .. }
-        | Instr::Fencei { .. } => next(arch),
+        | Instr::Fencei { .. }
+        | Instr::Ebreak
+        | Instr::Wfi
+        | Instr::Sfencevma { .. } => next(arch),
+        Instr::Ecall => call(answer, arch),
+        Instr::Sret => sret(arch),
+        Instr::Csrrw { rd, rs1, csr } => {
+            CsrAccess::of_register(CsrOp::Writes, csr, rs1, arch).finish(rd, answer, arch);
+        }
+        Instr::Csrrs { rd, rs1, csr } => {
+            CsrAccess::of_register(CsrOp::Sets, csr, rs1, arch).finish(rd, answer, arch);
+        }
+        Instr::Csrrc { rd, rs1, csr } => {
+            CsrAccess::of_register(CsrOp::Clears, csr, rs1, arch).finish(rd, answer, arch);
+        }
+        Instr::Csrrwi { rd, value, csr } => {
+            CsrAccess::of_value(CsrOp::Writes, csr, value).finish(rd, answer, arch);
+        }
+        Instr::Csrrsi { rd, value, csr } => {
+            CsrAccess::of_value(CsrOp::Sets, csr, value).finish(rd, answer, arch);
+        }
+        Instr::Csrrci { rd, value, csr } => {
+            CsrAccess::of_value(CsrOp::Clears, csr, value).finish(rd, answer, arch);
+        }
         // not built
         Instr::Mul { .. }
         | Instr::Mulh { .. }
@@ -159,17 +206,6 @@ fn complete(arch: &mut Arch, instr: &Instr, answer: Answer)
         | Instr::Divuw { .. }
         | Instr::Remw { .. }
         | Instr::Remuw { .. }
-        | Instr::Ecall
-        | Instr::Ebreak
-        | Instr::Sret
-        | Instr::Wfi
-        | Instr::Sfencevma { .. }
-        | Instr::Csrrw { .. }
-        | Instr::Csrrs { .. }
-        | Instr::Csrrc { .. }
-        | Instr::Csrrwi { .. }
-        | Instr::Csrrsi { .. }
-        | Instr::Csrrci { .. }
         | Instr::Lr { .. }
         | Instr::Sc { .. }
         | Instr::Amoswap { .. }
@@ -185,7 +221,7 @@ fn complete(arch: &mut Arch, instr: &Instr, answer: Answer)
 }
 
 /// Changes registers and pc as the instruction does with this answer to its need, or takes the fault.
-#[inline]
+#[inline(always)]
 pub fn finish(arch: &mut Arch, instr: &Instr, answer: Answer)
     requires range { IsInRange instr.now }
     requires built { IsTrue (is_built instr.now) }

@@ -1,8 +1,10 @@
 //! What an instruction needs of the machine, and what it leaves of its hart (RISC-V Unprivileged ISA,
-//! "RV32I Base Integer Instruction Set", "RV64I Base Integer Instruction Set").
+//! "RV32I Base Integer Instruction Set", "RV64I Base Integer Instruction Set", "Zicsr" Extension; Privileged
+//! Architecture, "Supervisor Instructions").
 #![tactic(auto)]
 
 mod alu;
+mod csrs;
 mod finishing;
 mod needs;
 mod planning;

@@ -1,13 +1,14 @@
 // What an instruction needs: a function of the registers and the instruction alone.
-ghost use Rattle.std.specs.Prelude.{◌≡◌, ◌<◌, IsTrue, int_lt};
-ghost use Rattle.rv64_decode.specs.Encoding.{IsInRange};
+ghost use Rattle.std.specs.Prelude.{◌≡◌, ◌<◌, IsTrue, int_lt, if◌then◌else◌};
+ghost use Rattle.rv64_decode.specs.Encoding.{encoding_of, IsInRange};
 ghost use Rattle.rv64_exec.specs.Built.{is_built};
 ghost use Rattle.rv64_exec.specs.Alu.{s64};
-ghost use Rattle.rv64_exec.specs.Plan.{address, branch, jal_target, jalr_target, jump, need_of, reg};
+ghost use Rattle.rv64_exec.specs.Plan.{address, branch, flush_at, jal_target, jalr_target, jump, need_of, reg};
 ghost use Rattle.rv64_exec.specs.declared.needs.Need.{Need as TheNeed};
 
 use crate::alu::{add, extended};
-use crate::needs::Need;
+use crate::csrs::{CsrAccess, CsrOp, illegal};
+use crate::needs::{FlushOf, Need};
 use rv64_decode::Instr;
 use rv64_priv::Arch;
 
@@ -67,7 +68,18 @@ pub fn is_built(instr: &Instr) -> bool
         | Instr::Subw { .. }
         | Instr::Sraw { .. }
         | Instr::Fence { .. }
-        | Instr::Fencei { .. } => true,
+        | Instr::Fencei { .. }
+        | Instr::Ecall
+        | Instr::Ebreak
+        | Instr::Sret
+        | Instr::Wfi
+        | Instr::Sfencevma { .. }
+        | Instr::Csrrw { .. }
+        | Instr::Csrrs { .. }
+        | Instr::Csrrc { .. }
+        | Instr::Csrrwi { .. }
+        | Instr::Csrrsi { .. }
+        | Instr::Csrrci { .. } => true,
         Instr::Mul { .. }
         | Instr::Mulh { .. }
         | Instr::Mulhsu { .. }
@@ -81,17 +93,6 @@ pub fn is_built(instr: &Instr) -> bool
         | Instr::Divuw { .. }
         | Instr::Remw { .. }
         | Instr::Remuw { .. }
-        | Instr::Ecall
-        | Instr::Ebreak
-        | Instr::Sret
-        | Instr::Wfi
-        | Instr::Sfencevma { .. }
-        | Instr::Csrrw { .. }
-        | Instr::Csrrs { .. }
-        | Instr::Csrrc { .. }
-        | Instr::Csrrwi { .. }
-        | Instr::Csrrsi { .. }
-        | Instr::Csrrci { .. }
         | Instr::Lr { .. }
         | Instr::Sc { .. }
         | Instr::Amoswap { .. }
@@ -196,6 +197,48 @@ fn store(arch: &Arch, base: u8, source: u8, imm: i32, width: u8) -> Need
     Need::Store { va, width, value }
 }
 
+/// ECALL: in supervisor mode a call of the SBI.
+#[inline(never)]
+fn environment_call(arch: &Arch) -> Need
+    ensures { result ≡ (if arch.now.user then TheNeed.Trap 8 0 else TheNeed.Sbi) }
+{
+    if arch.user {
+        Need::Trap { cause: 8, tval: 0 }
+    } else {
+        Need::Sbi
+    }
+}
+
+/// SRET, of supervisor mode alone.
+#[inline(never)]
+fn return_from_trap(arch: &Arch, instr: &Instr) -> Need
+    requires { IsInRange instr.now }
+    ensures { result ≡ (if arch.now.user then TheNeed.Trap 2 (encoding_of instr.now) else TheNeed.Nothing) }
+{
+    if arch.user {
+        illegal(instr)
+    } else {
+        Need::Nothing
+    }
+}
+
+/// SFENCE.VMA, of supervisor mode alone: all translations where rs1 is register 0, else those of one page.
+#[inline(never)]
+fn fence_translations(arch: &Arch, instr: &Instr, rs1: u8) -> Need
+    requires range { IsInRange instr.now }
+    requires register { rs1 < 32 }
+    ensures { result ≡ (if arch.now.user then TheNeed.Trap 2 (encoding_of instr.now) else TheNeed.Flush (flush_at rs1 (reg arch.now rs1))) }
+{
+    if arch.user {
+        return illegal(instr);
+    }
+    if rs1 == 0 {
+        Need::Flush(FlushOf::All)
+    } else {
+        Need::Flush(FlushOf::Page(reg(arch, rs1) / 4096))
+    }
+}
+
 /// The one thing that the instruction needs of the machine.
 #[inline]
 #[tactic(auto, unfolding(crate::specs::Plan::need_of))]
@@ -224,6 +267,28 @@ pub fn plan(arch: &Arch, instr: &Instr) -> Need
         Instr::Sh { rs1, rs2, imm } => store(arch, rs1, rs2, imm, 2),
         Instr::Sw { rs1, rs2, imm } => store(arch, rs1, rs2, imm, 4),
         Instr::Sd { rs1, rs2, imm } => store(arch, rs1, rs2, imm, 8),
+        Instr::Ecall => environment_call(arch),
+        Instr::Ebreak => Need::Trap { cause: 3, tval: 0 },
+        Instr::Sret => return_from_trap(arch, instr),
+        Instr::Sfencevma { rs1, .. } => fence_translations(arch, instr, rs1),
+        Instr::Csrrw { rs1, csr, .. } => {
+            CsrAccess::of_register(CsrOp::Writes, csr, rs1, arch).need(arch, instr)
+        }
+        Instr::Csrrs { rs1, csr, .. } => {
+            CsrAccess::of_register(CsrOp::Sets, csr, rs1, arch).need(arch, instr)
+        }
+        Instr::Csrrc { rs1, csr, .. } => {
+            CsrAccess::of_register(CsrOp::Clears, csr, rs1, arch).need(arch, instr)
+        }
+        Instr::Csrrwi { value, csr, .. } => {
+            CsrAccess::of_value(CsrOp::Writes, csr, value).need(arch, instr)
+        }
+        Instr::Csrrsi { value, csr, .. } => {
+            CsrAccess::of_value(CsrOp::Sets, csr, value).need(arch, instr)
+        }
+        Instr::Csrrci { value, csr, .. } => {
+            CsrAccess::of_value(CsrOp::Clears, csr, value).need(arch, instr)
+        }
         _ => Need::Nothing,
     }
 }

@@ -1,5 +1,5 @@
 // Harts before and after one instruction, which is given by its word.
-use crate::{Answer, Arch, Need, finish, is_built, plan};
+use crate::{Answer, Arch, FlushOf, IpiOp, Need, finish, is_built, plan};
 use rv64_decode::decode;
 
 /// Where most instructions stand.
@@ -17,14 +17,14 @@ pub(crate) const MIN: u64 = 0x8000_0000_0000_0000;
 /// The greatest signed number.
 pub(crate) const MAX: u64 = 0x7fff_ffff_ffff_ffff;
 
-/// A hart in user mode with these values in x5 and x6.
+/// A hart in user mode at pc, a multiple of 4, with these values in x5 and x6.
 pub(crate) fn hart(pc: u64, x5: u64, x6: u64) -> Arch {
     let mut x = [0; 32];
     x[5] = x5;
     x[6] = x6;
     Arch {
         x,
-        pc,
+        pc: pc / 4 * 4,
         user: true,
         sstatus: 0,
         sie: 0,
@@ -36,6 +36,13 @@ pub(crate) fn hart(pc: u64, x5: u64, x6: u64) -> Arch {
         satp: 0,
         hold: None,
     }
+}
+
+/// The same in supervisor mode.
+pub(crate) fn supervisor(x5: u64, x6: u64) -> Arch {
+    let mut arch = hart(PC, x5, x6);
+    arch.user = false;
+    arch
 }
 
 /// The hart after the instruction of this word, where it is built and can get this answer.
@@ -56,6 +63,15 @@ pub(crate) fn after(arch: &Arch, word: u32, answer: Answer) -> Option<Arch> {
         }
         (Need::Store { .. }, Answer::Fault { cause, tval }) => {
             finish(&mut arch, &instr, Answer::Fault { cause, tval });
+        }
+        (Need::Flush(_), Answer::Nothing) => finish(&mut arch, &instr, Answer::Nothing),
+        (Need::Ipi { .. }, Answer::Value(value)) => {
+            finish(&mut arch, &instr, Answer::Value(value));
+        }
+        (Need::Sbi, Answer::Nothing) => finish(&mut arch, &instr, Answer::Nothing),
+        (Need::Sbi, Answer::Single(value)) => finish(&mut arch, &instr, Answer::Single(value)),
+        (Need::Sbi, Answer::Pair { error, value }) => {
+            finish(&mut arch, &instr, Answer::Pair { error, value });
         }
         _ => return None,
     }
@@ -100,4 +116,41 @@ pub(crate) fn store(arch: &Arch, word: u32) -> Option<(u64, u8, u64)> {
         Need::Store { va, width, value } => Some((va, width, value)),
         _ => None,
     }
+}
+
+/// What a system instruction may need.
+#[derive(Clone, Copy, Debug, PartialEq, Eq)]
+pub(crate) enum Needed {
+    Nothing,
+    FlushAll,
+    FlushPage(u64),
+    ReadIpi,
+    SetIpi,
+    ClearIpi,
+    Sbi,
+    Trap(u64, u64),
+    Access,
+}
+
+/// What the word's instruction needs, where it is built.
+pub(crate) fn need_at(arch: &Arch, word: u32) -> Option<Needed> {
+    let instr = decode(word)?;
+    if !is_built(&instr) {
+        return None;
+    }
+    Some(match plan(arch, &instr) {
+        Need::Nothing => Needed::Nothing,
+        Need::Flush(FlushOf::All) => Needed::FlushAll,
+        Need::Flush(FlushOf::Page(page)) => Needed::FlushPage(page),
+        Need::Ipi { op: IpiOp::Read } => Needed::ReadIpi,
+        Need::Ipi { op: IpiOp::Set } => Needed::SetIpi,
+        Need::Ipi { op: IpiOp::Clear } => Needed::ClearIpi,
+        Need::Sbi => Needed::Sbi,
+        Need::Trap { cause, tval } => Needed::Trap(cause, tval),
+        Need::Load { .. }
+        | Need::Store { .. }
+        | Need::Amo { .. }
+        | Need::Lr { .. }
+        | Need::Sc { .. } => Needed::Access,
+    })
 }
