@@ -1,2 +1,3 @@
-pub mod OneHeader
+pub mod Checks
+pub mod Headers
 pub mod Starts

@@ -7,11 +7,7 @@ use Rattle.elf_load.specs.declared.image.BadImage.TheVariants.{EntryOutside, Ove
 use Rattle.elf_load.specs.Loaded.{Loaded}
 use Rattle.elf_load.specs.ImageOf.{Check, check, first_failed, head_checks, all_place_checks, checks, placed, overlaps, start_of, is_bad_start}
 use Rattle.elf_load.specs.ImageOf.{start_or_zero, loaded, answer_to, image_of, IsImageOf}
-use Rattle.elf_load.proofs.OneHeader.{first_or, failed_append}
-
-later_none : (o p : Option BadImage) → first_or o p ≡ None → p ≡ None
-later_none None p e = e
-later_none (Some k) p e = cc
+use Rattle.elf_load.proofs.Checks.{failed_append, both_pass}
 
 answered : (o : Option BadImage) (l image : Loaded) → answer_to o l ≡ Ok image → (o ≡ None) × (l ≡ image)
 answered None l image e = (refl, cc)
@@ -36,6 +32,6 @@ start_aligned file pages image of =
     let both = answered (first_failed (checks file of.read_for)) (loaded file) image of.is_image in
     let tail : List Check = check (overlaps (placed file)) Overlap ∷ check (is_bad_start (start_of file)) EntryOutside ∷ [] in
     let rest : first_failed tail ≡ None
-    = later_none (first_failed (head_checks file ++ all_place_checks (length file) of.read_for (placed file))) (first_failed tail)
-    (sym (failed_append (head_checks file ++ all_place_checks (length file) of.read_for (placed file)) tail) ∙ both.0) in
+    = (both_pass (first_failed (head_checks file ++ all_place_checks (length file) of.read_for (placed file))) (first_failed tail)
+    (sym (failed_append (head_checks file ++ all_place_checks (length file) of.read_for (placed file)) tail) ∙ both.0)).1 in
     subst (λ (l : Loaded). l.start % 4 ≡ 0) both.1 (good_start (start_of file) (last_passes (overlaps (placed file)) (is_bad_start (start_of file)) rest))

@@ -1,8 +1,8 @@
 -- Which files are accepted: the first check that a file fails, or its image. Sums don't wrap. (ELF-64 Object File Format, "ELF header"
 -- and "Program header table"; e_machine and the bits of e_flags: RISC-V ELF psABI, "File Header".)
 use Rattle.std.specs.Prelude.{◌≡◌, ◌≤◌, ℕ, ◌+◌, ◌-◌, ◌*◌, ◌%◌, ◌^◌, Bool, true, false, not, ◌&&◌, ◌||◌, ◌==◌, nat_lt, nat_le, if◌then◌else◌, List, []}
-use Rattle.std.specs.Prelude.{◌∷◌, ◌++◌, map, filter, length, slice_index, Option, Some, None, is_none, Result, Ok, Err}
-use Rattle.std.specs.List.{list_any, list_all}
+use Rattle.std.specs.Prelude.{◌∷◌, ◌++◌, map, filter, length, slice_index, Option, Some, None, Result, Ok, Err}
+use Rattle.std.specs.List.{list_any}
 use Rattle.elf_load.specs.declared.image.BadImage.{BadImage}
 use Rattle.elf_load.specs.declared.image.BadImage.TheVariants.{Short, NotElf, NotRv64, NotExec, Compressed, SegmentOutside, Overlap, EntryOutside}
 use Rattle.elf_load.specs.declared.image.Part.{Part}
@@ -111,14 +111,6 @@ answer_to (Some kind) image = Err kind
 -- the image of a file for a machine of so many pages, or the first kind of fault that refuses it
 unfoldable pub image_of : List ℕ → (pages : ℕ) → Result Loaded BadImage
 image_of file pages = answer_to (first_failed (checks file pages)) (loaded file)
-
--- no check of a list fails
-abbrev pub passes : List Check → Bool
-passes cs = is_none (first_failed cs)
-
--- the files that are built so far: they fail a check of their own header, or have one program header, and it places something
-abbrev pub is_built : List ℕ → Bool
-is_built file = not (passes (head_checks file)) || ((e_phnum file == 1) && list_all is_placed (headers file))
 
 -- the image was read from this file, for a machine of no more pages than these
 pub record IsImageOf (file : List ℕ) (pages : ℕ) (image : Loaded) : Type 0 where

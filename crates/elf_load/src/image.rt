@@ -1,4 +1,5 @@
 // What a file gives: where its program starts, and the parts that it puts into memory.
+use std::alloc::AllocError;
 use std::marker::Model;
 use thiserror::Error;
 
@@ -28,10 +29,19 @@ pub enum BadImage {
 pub enum ImageErr {
     #[error("bad image: {0}")]
     Bad(BadImage),
-    #[error("not built")]
-    Unbuilt,
     #[error("out of memory")]
     NoMemory,
+}
+
+impl From<AllocError> for ImageErr {
+    ghost use Rattle.std.specs.Prelude.{◌≡◌};
+    ghost use Rattle.elf_load.specs.declared.image.ImageErr.TheVariants.{NoMemory as no_memory};
+
+    ghost from_gives = { λ e r. r ≡ no_memory };
+
+    fn from(_: AllocError) -> ImageErr {
+        ImageErr::NoMemory
+    }
 }
 
 /// From the physical address `place` on stand `len` bytes of the file, which begin at its byte `at`, and then

@@ -5,9 +5,12 @@
 mod header;
 mod image;
 mod parsing;
+mod segments;
 
 pub use image::{BadImage, Image, ImageErr, Part};
 pub use parsing::parse;
 
+#[cfg(test)]
+mod table_tests;
 #[cfg(test)]
 mod tests;

@@ -6,10 +6,10 @@ use std::alloc::{AllocError, Global};
 use std::test::Fail;
 
 /// 256 pages of RAM end at 0x80100000.
-const PAGES: u32 = 256;
+pub(crate) const PAGES: u32 = 256;
 
 /// A field's place in the file and its width, both in bytes. The program header stands at 64.
-type Field = (usize, usize);
+pub(crate) type Field = (usize, usize);
 
 /// A field, and what it is to hold.
 type Change = (Field, u64);
@@ -24,15 +24,15 @@ const E_TYPE: Field = (16, 2);
 
 const E_MACHINE: Field = (18, 2);
 
-const E_ENTRY: Field = (24, 8);
+pub(crate) const E_ENTRY: Field = (24, 8);
 
 const E_PHOFF: Field = (32, 8);
 
 const E_FLAGS: Field = (48, 4);
 
-const E_PHENTSIZE: Field = (54, 2);
+pub(crate) const E_PHENTSIZE: Field = (54, 2);
 
-const E_PHNUM: Field = (56, 2);
+pub(crate) const E_PHNUM: Field = (56, 2);
 
 const P_TYPE: Field = (64, 4);
 
@@ -46,7 +46,7 @@ const P_FILESZ: Field = (96, 8);
 
 const P_MEMSZ: Field = (104, 8);
 
-fn set(file: &mut [u8], field: Field, value: u64) {
+pub(crate) fn set(file: &mut [u8], field: Field, value: u64) {
     let (place, width) = field;
     let bytes = value.to_le_bytes();
     for (byte, new) in file.iter_mut().skip(place).zip(bytes.iter().take(width)) {
@@ -93,7 +93,7 @@ fn changed(alloc: Global, changes: [Change; 2]) -> Result<Vec<u8>, AllocError> {
 const SAME: Change = ((20, 4), 1);
 
 /// The greatest number of a field of 8 bytes.
-const MOST: u64 = 0xffff_ffff_ffff_ffff;
+pub(crate) const MOST: u64 = 0xffff_ffff_ffff_ffff;
 
 /// Where the image begins, and its one part.
 fn at(start: u64, place: u64, at: usize, len: usize, zeros: u64) -> (u64, Part) {
@@ -295,9 +295,10 @@ fn bad_files_are_refused(rt: HostRuntime) -> Result<(), Fail> {
     Ok(())
 }
 
-// Their own headers pass all checks, so that a fault of a segment or of the entry isn't looked for.
+// Their own headers pass all checks, and no header of theirs places anything: none holds the entry, and a fault of
+// one that is passed over isn't looked for.
 #[test]
-fn unbuilt_files_are_refused(rt: HostRuntime) -> Result<(), Fail> {
+fn files_that_place_nothing_are_refused(rt: HostRuntime) -> Result<(), Fail> {
     let alloc = rt.alloc();
     for (name, changes) in [
         ("no header", [(E_PHNUM, 0), SAME]),
@@ -316,7 +317,7 @@ fn unbuilt_files_are_refused(rt: HostRuntime) -> Result<(), Fail> {
         ("note, RAM", [(P_TYPE, 4), (P_PADDR, 0)]),
     ] {
         let parsed = parse(alloc, &changed(alloc, changes)?, PAGES);
-        assert_eq!(rt; parsed.err(), Some(ImageErr::Unbuilt), "{name}");
+        assert_eq!(rt; parsed.err(), Some(ImageErr::Bad(EntryOutside)), "{name}");
     }
     Ok(())
 }
@@ -339,6 +340,10 @@ fn short_files_are_refused(rt: HostRuntime) -> Result<(), Fail> {
     let mut whole = changed(alloc, [(E_PHNUM, 0), SAME])?;
     whole.truncate(64);
     let parsed = parse(alloc, &whole, PAGES);
-    assert_eq!(rt; parsed.err(), Some(ImageErr::Unbuilt), "a header alone");
+    assert_eq!(rt;
+        parsed.err(),
+        Some(ImageErr::Bad(EntryOutside)),
+        "a header alone"
+    );
     Ok(())
 }
