@@ -1,10 +1,12 @@
 pub mod Harts
+pub mod Loading
 pub mod Plainly
 pub mod Grows
 pub mod Rows
 pub mod Uniform
 pub mod Reading
-pub mod Bare
+pub mod Reaches
+pub mod Fresh
 pub mod First
 pub mod Served
 pub mod Turns

@@ -1,25 +1,25 @@
 -- Each turn of the plain run is lawful: every moment is now.
 use Rattle.std.proofs.Common.{◌≡◌, refl, ℕ, zero, suc, ◌<◌, ◌+◌, ◌%◌, ◌++◌, List, [], ◌∷◌, map, Some, None, Option, true, false, Bool, not, ◌&&◌, length, length-set, arith, ap, sym, ◌∙◌, subst}
-use Rattle.std.specs.Prelude.{◌≢◌, ◌==◌, IsSome, is_some, if◌then◌else◌, slice_set, replicate, ◌-◌}
+use Rattle.std.specs.Prelude.{◌≢◌, ◌==◌, IsSome, is_some, MatchBool, if◌then◌else◌, slice_set, replicate, ◌-◌}
 use Rattle.std.specs.List.{AllByRecursion}
 use Rattle.std.proofs.lemmas.Bool.{le-leb, eq-eqb, ne_eqb, eqb-true, eqb-false}
 use Rattle.std.proofs.lemmas.List.{get_or-set_same}
 use Rattle.rv64_priv.specs.declared.state.Kind.{Kind}
 use Rattle.rv64_priv.specs.Walk.{Walked, Leaf, PageFault, AccessFault, is_device}
 use Rattle.rv64_priv.specs.Flush.{Flush, Full, Pages}
-use Rattle.rv64_exec.specs.Code.{Code}
+use Rattle.rv64_exec.specs.Code.{Code, no_code}
 use Rattle.ref_machine.specs.declared.reason.Reason.{Reason}
 use Rattle.ref_machine.specs.Past.{now, HasSince, this, before}
 use Rattle.ref_machine.specs.Event.{Event, Outcome, Starting, Interrupt, Flushes, Start, Stop, actor_of, did_of}
-use Rattle.ref_machine.specs.State.{Setup, State, Hart, Mode, Started, Halted, Pending, hart, nth, memory, all_halted, initial, new_hart}
+use Rattle.ref_machine.specs.State.{Setup, State, Hart, Mode, Started, Halted, Pending, hart, nth, memory, all_halted, is_started, initial, new_hart}
 use Rattle.ref_machine.specs.Access.{AtRam, AtDevice, spot_of, second_va}
 use Rattle.ref_machine.specs.Walks.{Wanted, walked_now, need, access_of, first_now, second_now, no_walk}
 use Rattle.ref_machine.specs.Change.{state_after, part_next, has_part, executed, fetched, first_reason, awaited}
 use Rattle.ref_machine.specs.Run.{state_of, is_of, fetches, includes, flushes, last_of, passes, counts, leaves, is_leaf_end, is_due}
 use Rattle.ref_machine.specs.Lawful.{IsLawful, IsRun, IsAllowed, AllowedFor, Flushing, flushing, FlushesDone}
-use Rattle.ref_machine.specs.Now.{is_pending, IsNext, exec_now, fetch_now, fetch_end}
+use Rattle.ref_machine.specs.Now.{is_pending, IsCode, IsNext, exec_now, fetch_now, fetch_end}
 use Rattle.ref_machine.specs.Built.{is_built}
-use Rattle.ref_machine.specs.Plain.{IsPlainRun, turn, over, plain_turn, turn_in, taken_turn, instruction, executing, with_stops, stops_behind, flush_events}
+use Rattle.ref_machine.specs.Plain.{IsPlainRun, turn, over, plain_turn, turn_in, built_turn, instruction, executing, with_stops, stops_behind, flush_events}
 use Rattle.ref_machine.proofs.Harts.{by_set, started_there, pending_there, event_keeps, start_keeps}
 
 -- no hart holds a word, and no stop is due
@@ -60,8 +60,16 @@ access_now u run h (Some w) = record {
   second_page = λ crosses _. subst (λ b. IsAllowed u run h w.kind (second_va w.va) (if b then walked_now u (state_of u run) h w.kind (second_va w.va) else no_walk)) (sym crosses) (allowed_now u run h w.kind (second_va w.va));
 }
 
+-- the code of the word that the hart's fetch finds
+abbrev Found : Setup → State → ℕ → Code → Type 0
+Found u s h code = IsCode (memory u s) (hart s h).arch.pc (fetch_end u s h) code
+
+found_by : (u : Setup) (s : State) (h : ℕ) (code : Code) → (hart s h).mode ≡ Started → is_pending u s h (memory u s) ≡ false → IsNext u s h code → Found u s h code
+found_by u s h code started quiet next =
+    subst (λ b. MatchBool b (Found u s h code) (code ≡ no_code)) (ap (λ m. is_started m && not (is_pending u s h (memory u s))) started ∙ ap not quiet) next
+
 pub fetch_lawful : (u : Setup) (run : List Event) (h : ℕ) (code : Code) → Settled u run → (hart (state_of u run) h).mode ≡ Started
-    → is_pending u (state_of u run) h (memory u (state_of u run)) ≡ false → IsNext u (state_of u run) h code → IsLawful u run (fetch_now u (state_of u run) h code)
+    → is_pending u (state_of u run) h (memory u (state_of u run)) ≡ false → Found u (state_of u run) h code → IsLawful u run (fetch_now u (state_of u run) h code)
 fetch_lawful u run h code k started quiet next = record {
   there = started_there (state_of u run).harts h started;
   started = started;
@@ -322,9 +330,9 @@ start_good u run h g k pending =
 
 -- a form that isn't built
 unbuilt_good : (u : Setup) (run : List Event) (h : ℕ) (code : Code) → Good u run → Settled u run → (hart (state_of u run) h).mode ≡ Started
-    → IsNext u (state_of u run) h code → is_built u (state_of u run) h code ≡ false → Good u (Stop h Reason.Unbuilt ∷ run)
-unbuilt_good u run h code g k started next unbuilt = record {
-  is_run = (record { there = started_there (state_of u run).harts h started; started = started; holds_none = k.holds_none h; not_due = k.undue h; code = code; next = next; unbuilt = unbuilt }, g.is_run);
+    → is_pending u (state_of u run) h (memory u (state_of u run)) ≡ false → Found u (state_of u run) h code → is_built u (state_of u run) h code ≡ false → Good u (Stop h Reason.Unbuilt ∷ run)
+unbuilt_good u run h code g k started quiet next unbuilt = record {
+  is_run = (record { there = started_there (state_of u run).harts h started; started = started; holds_none = k.holds_none h; not_due = k.undue h; quiet = quiet; code = code; next = next; unbuilt = unbuilt }, g.is_run);
   settled = λ e. absurd (reason_stands (state_of u run).reason Reason.Unbuilt e);
 }
 
@@ -333,20 +341,20 @@ pub turn_good : (u : Setup) (run : List Event) (h : ℕ) (code : Code) → IsNex
 unfolding plain_turn
 turn_good u run h code next g = by_reason (state_of u run).reason refl
   where
-    by_pending : (b : Bool) → is_pending u (state_of u run) h (memory u (state_of u run)) ≡ b → Settled u run → (hart (state_of u run) h).mode ≡ Started
-        → Good u ((if b then Interrupt h ∷ [] else instruction u (state_of u run) h code) ++ run)
-    by_pending true e k started = interrupt_good u run h g k started e
-    by_pending false e k started = instruction_good u run h code g k started (fetch_lawful u run h code k started e next)
-
     by_built : (b : Bool) → is_built u (state_of u run) h code ≡ b → Settled u run → (hart (state_of u run) h).mode ≡ Started
-        → Good u ((if b then taken_turn u (state_of u run) h code else Stop h Reason.Unbuilt ∷ []) ++ run)
-    by_built true e k started = by_pending (is_pending u (state_of u run) h (memory u (state_of u run))) refl k started
-    by_built false e k started = unbuilt_good u run h code g k started next e
+        → is_pending u (state_of u run) h (memory u (state_of u run)) ≡ false → Good u ((if b then instruction u (state_of u run) h code else Stop h Reason.Unbuilt ∷ []) ++ run)
+    by_built true e k started quiet = instruction_good u run h code g k started (fetch_lawful u run h code k started quiet (found_by u (state_of u run) h code started quiet next))
+    by_built false e k started quiet = unbuilt_good u run h code g k started quiet (found_by u (state_of u run) h code started quiet next) e
+
+    by_pending : (b : Bool) → is_pending u (state_of u run) h (memory u (state_of u run)) ≡ b → Settled u run → (hart (state_of u run) h).mode ≡ Started
+        → Good u ((if b then Interrupt h ∷ [] else built_turn u (state_of u run) h code) ++ run)
+    by_pending true e k started = interrupt_good u run h g k started e
+    by_pending false e k started = by_built (is_built u (state_of u run) h code) refl k started e
 
     by_mode : (m : Mode) → (hart (state_of u run) h).mode ≡ m → Settled u run → Good u (turn_in u (state_of u run) h code m ++ run)
     by_mode Halted e k = g
     by_mode Pending e k = start_good u run h g k e
-    by_mode Started e k = by_built (is_built u (state_of u run) h code) refl k e
+    by_mode Started e k = by_pending (is_pending u (state_of u run) h (memory u (state_of u run))) refl k e
 
     by_reason : (r : Option Reason) → (state_of u run).reason ≡ r → Good u ((if is_some r then [] else turn_in u (state_of u run) h code (hart (state_of u run) h).mode) ++ run)
     by_reason (Some r) e = g

@@ -1,6 +1,6 @@
 -- What each event changes: its hart, by what the event carries, and the rest by what it did.
 use Rattle.std.specs.Prelude.{ℕ, ◌+◌, Bool, true, false, if◌then◌else◌, List, [], ◌∷◌, ◌++◌, drop, Option, Some, None, option_to_list, slice_set}
-use Rattle.rv64_priv.specs.declared.state.Arch.{Arch}
+use Rattle.rv64_priv.specs.State.{Arch}
 use Rattle.rv64_priv.specs.declared.state.Kind.{Kind}
 use Rattle.rv64_priv.specs.Trap.{trapped, software_interrupt}
 use Rattle.rv64_exec.specs.Code.{Code}

@@ -16,7 +16,7 @@ use Rattle.ref_machine.specs.Access.{crosses_page, second_va, spot_of, is_at_ram
 use Rattle.ref_machine.specs.Sbi.{Call, Fences, sbi_of, bytes_from}
 use Rattle.ref_machine.specs.Walks.{Wanted, walked, need, access_of}
 use Rattle.ref_machine.specs.Perform.{perform}
-use Rattle.ref_machine.specs.Now.{IsCode, IsNext, is_pending}
+use Rattle.ref_machine.specs.Now.{IsCode, is_pending, fetch_end}
 use Rattle.ref_machine.specs.Built.{is_built}
 
 -- The end of a walk is that of reads in order, of moments up to now. For a leaf they are since the hart's last flush
@@ -113,8 +113,9 @@ pub record IsUnbuilt (u : Setup) (run : List Event) (s : State) (h : ℕ) : Type
   pub started : (hart s h).mode ≡ Started
   pub holds_none : (hart s h).held ≡ None
   pub not_due : is_due u run s h ≡ false
+  pub quiet : is_pending u s h (memory u s) ≡ false
   pub code : Code
-  pub next : IsNext u s h code
+  pub next : IsCode (memory u s) (hart s h).arch.pc (fetch_end u s h) code
   pub unbuilt : is_built u s h code ≡ false
 
 -- a hart's last event brought its count to the limit, or stopped the last of the harts; the script says stop; the hart

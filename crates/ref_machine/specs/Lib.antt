@@ -17,5 +17,7 @@ pub mod Image
 pub mod Laws
 pub mod Reading
 pub mod PlainState
+pub mod Devices
+pub mod Translation
 pub mod Shows
 pub mod Ran

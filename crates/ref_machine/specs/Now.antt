@@ -1,5 +1,5 @@
 -- What a hart finds and does where every moment is now.
-use Rattle.std.specs.Prelude.{◌≡◌, ℕ, ◌+◌, ◌%◌, Bool, ◌&&◌}
+use Rattle.std.specs.Prelude.{◌≡◌, ℕ, ◌+◌, ◌%◌, Bool, not, ◌&&◌, MatchBool}
 use Rattle.rv64_decode.specs.Encoding.{Decodes}
 use Rattle.rv64_priv.specs.declared.state.Kind.{Kind}
 use Rattle.rv64_priv.specs.Trap.{takes_interrupts}
@@ -9,7 +9,7 @@ use Rattle.rv64_exec.specs.Code.{Code, no_code}
 use Rattle.step_laws.specs.Words.{ipi_word}
 use Rattle.ref_machine.specs.Memory.{Memory}
 use Rattle.ref_machine.specs.Event.{Event, Outcome, Fetch, Exec}
-use Rattle.ref_machine.specs.State.{Setup, State, hart, memory}
+use Rattle.ref_machine.specs.State.{Setup, State, hart, memory, is_started}
 use Rattle.ref_machine.specs.Access.{code_word}
 use Rattle.ref_machine.specs.Walks.{walked_now, need, access_of, first_now, second_now}
 use Rattle.ref_machine.specs.Perform.{perform}
@@ -40,6 +40,10 @@ exec_now u s h =
     let second = second_now u s h (access_of (need s h)) in
     Exec h first second (perform u s h first second (need s h))
 
--- the code of the hart's next word
+-- the hart's turn fetches a word: it runs, and takes no interrupt
+abbrev pub fetches_now : Setup → State → (h : ℕ) → Bool
+fetches_now u s h = is_started (hart s h).mode && not (is_pending u s h (memory u s))
+
+-- the code of the word that the hart's turn fetches; none where it fetches none
 abbrev pub IsNext : Setup → State → (h : ℕ) → Code → Type 0
-IsNext u s h code = IsCode (memory u s) (hart s h).arch.pc (fetch_end u s h) code
+IsNext u s h code = MatchBool (fetches_now u s h) (IsCode (memory u s) (hart s h).arch.pc (fetch_end u s h) code) (code ≡ no_code)

@@ -1,7 +1,7 @@
 -- What the reference machine does for an instruction's need.
 use Rattle.std.specs.Prelude.{ℕ, ◌+◌, ◌-◌, ◌*◌, ◌%◌, ◌^◌, Bool, true, false, not, ◌&&◌, ◌==◌, nat_le, min, max, if◌then◌else◌, ℤ, pos, int_lt, List, [], ◌∷◌, length, take, Option, Some, None, bit_and, bit_or, bit_xor}
 use Rattle.std.specs.Int.{w64, cast_unsigned}
-use Rattle.rv64_priv.specs.declared.state.Arch.{Arch}
+use Rattle.rv64_priv.specs.State.{Arch}
 use Rattle.rv64_priv.specs.declared.state.Hold.{Hold}
 use Rattle.rv64_priv.specs.declared.state.Kind.{Kind}
 use Rattle.rv64_priv.specs.Walk.{Walked}

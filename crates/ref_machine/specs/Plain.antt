@@ -30,19 +30,20 @@ with_stops u s h e = stops_behind u h e (state_after e s) ++ e ∷ []
 unfoldable pub executing : Setup → State → (h : ℕ) → List Event
 executing u s h = with_stops u s h (exec_now u s h) ++ flush_events (flushing u s h (need s h))
 
--- a turn of a running hart that takes no interrupt, and one that may
+-- the Fetch of a hart, and the Exec behind it where that finds a leaf
 unfoldable pub instruction : Setup → State → (h : ℕ) → Code → List Event
 instruction u s h code =
     if is_leaf_end (fetch_end u s h)
     then executing u (state_after (fetch_now u s h code) s) h ++ fetch_now u s h code ∷ []
     else with_stops u s h (fetch_now u s h code)
 
-abbrev pub taken_turn : Setup → State → (h : ℕ) → Code → List Event
-taken_turn u s h code = if is_pending u s h (memory u s) then Interrupt h ∷ [] else instruction u s h code
-
 -- a stop stands in place of a form that isn't built
+abbrev pub built_turn : Setup → State → (h : ℕ) → Code → List Event
+built_turn u s h code = if is_built u s h code then instruction u s h code else Stop h Reason.Unbuilt ∷ []
+
+-- a turn of a running hart
 abbrev pub running_turn : Setup → State → (h : ℕ) → Code → List Event
-running_turn u s h code = if is_built u s h code then taken_turn u s h code else Stop h Reason.Unbuilt ∷ []
+running_turn u s h code = if is_pending u s h (memory u s) then Interrupt h ∷ [] else built_turn u s h code
 
 abbrev pub turn_in : Setup → State → (h : ℕ) → Code → Mode → List Event
 turn_in u s h code Halted = []
@@ -62,7 +63,7 @@ abbrev pub after_turn : Setup → (h : ℕ) → Code → State → State
 after_turn u h code s = states_after (plain_turn u s h code) s
 
 -- The plain run of an order, each element of which is the hart whose turn it is, the last turn first. Each turn is what
--- its hart's next word says; none is taken after the first reason.
+-- the word says that it fetches; none is taken after the first reason.
 pub data IsPlainRun (u : Setup) : List ℕ → List Event → Type 0 where
   none : IsPlainRun u [] []
   turn : {order : List ℕ} {run : List Event} → (h : ℕ) (code : Code) → (state_of u run).reason ≡ None → IsNext u (state_of u run) h code

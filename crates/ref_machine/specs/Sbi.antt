@@ -1,7 +1,7 @@
 -- SBI calls, as a function of the registers and the states that they name.
 use Rattle.std.specs.Prelude.{ℕ, zero, suc, ◌+◌, ◌-◌, ◌*◌, ◌/◌, ◌%◌, ◌^◌, Bool, not, ◌&&◌, ◌||◌, ◌==◌, nat_lt, nat_le, min, if◌then◌else◌, ℤ, pos, negsuc, List, [], ◌∷◌, ◌++◌, map, filter, Option, Some, None, bit_or}
 use Rattle.std.specs.List.{list_all, list_any}
-use Rattle.rv64_priv.specs.declared.state.Arch.{Arch}
+use Rattle.rv64_priv.specs.State.{Arch}
 use Rattle.rv64_priv.specs.Flush.{Flush, Full, Pages}
 use Rattle.rv64_priv.specs.Walk.{is_ram, ram_base}
 use Rattle.rv64_priv.specs.Bits.{is_set}

@@ -1,9 +1,9 @@
 -- How what the machine keeps shows the reference machine's state: it has the present words alone.
-use Rattle.std.specs.Prelude.{◌≡◌, ℕ, ◌<◌, ◌+◌, ◌-◌, ◌*◌, ◌%◌, List, [], ◌∷◌, length, replicate, Option, None, slice_index}
+use Rattle.std.specs.Prelude.{◌≡◌, ℕ, ◌<◌, ◌+◌, ◌-◌, ◌*◌, List, [], ◌∷◌, length, replicate, Option, None, slice_index}
 use Rattle.rv64_exec.specs.Code.{Code}
 use Rattle.elf_load.specs.Loaded.{Loaded}
 use Rattle.step_laws.specs.declared.words.Layout.{Layout}
-use Rattle.step_laws.specs.Words.{first_ram_word}
+use Rattle.step_laws.specs.Words.{first_ram_word, ipi_word}
 use Rattle.ref_machine.specs.Memory.{Memory, Entry, written}
 use Rattle.ref_machine.specs.Image.{image_memory}
 use Rattle.ref_machine.specs.State.{Setup, State, Hart, Command, Started, Halted, new_hart}
@@ -35,12 +35,11 @@ pub record Shows (u : Setup) (p : PlainState) (s : State) : Type 0 where
   pub script : List Command
   pub state : s ≡ shown p None entries script
   pub harts : p.harts ≡ u.layout.harts
+  pub pages : p.pages ≡ u.layout.pages
   pub size : length p.ram ≡ 512 * u.layout.pages
   pub ram : ShowsRam p.ram (written u.image entries)
+  pub ipi : written u.image entries ipi_word ≡ p.ipi
   pub limit : p.limit ≡ u.limit
-  pub bare : p.arch.satp ≡ 0
-  pub quiet : p.arch.sie ≡ 0
-  pub aligned : p.arch.pc % 4 ≡ 0
 
 -- A turn of the plain run: whatever state is shown before it, the hart's next word has one code where the machine goes on,
 -- and by each code that it has the state behind the turn is shown.

@@ -1,7 +1,7 @@
 -- The state of the reference machine.
 use Rattle.std.specs.Prelude.{ℕ, Bool, true, false, List, [], ◌∷◌, replicate, Option, None, slice_index_or, ◌-◌}
 use Rattle.std.specs.List.{list_all}
-use Rattle.rv64_priv.specs.declared.state.Arch.{Arch}
+use Rattle.rv64_priv.specs.State.{Arch}
 use Rattle.rv64_exec.specs.Code.{Code}
 use Rattle.step_laws.specs.declared.words.Layout.{Layout}
 use Rattle.ref_machine.specs.declared.reason.Reason.{Reason}
@@ -70,6 +70,10 @@ hart s h = nth s.harts h
 abbrev pub is_halted : Mode → Bool
 is_halted Halted = true
 is_halted _ = false
+
+abbrev pub is_started : Mode → Bool
+is_started Started = true
+is_started _ = false
 
 abbrev pub all_halted : State → Bool
 all_halted s = list_all (λ t. is_halted t.mode) s.harts

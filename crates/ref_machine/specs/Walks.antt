@@ -1,6 +1,6 @@
 -- The walks that a fetch and an instruction make.
 use Rattle.std.specs.Prelude.{ℕ, Bool, ◌==◌, if◌then◌else◌, Option, Some, None}
-use Rattle.rv64_priv.specs.declared.state.Arch.{Arch}
+use Rattle.rv64_priv.specs.State.{Arch}
 use Rattle.rv64_priv.specs.declared.state.Kind.{Kind}
 use Rattle.rv64_priv.specs.Csr.{regime}
 use Rattle.rv64_priv.specs.Walk.{Levels, Walked, walk_of}

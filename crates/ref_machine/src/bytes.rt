@@ -1,5 +1,5 @@
 // Numbers of some of a word's bytes: reading and replacing them.
-ghost use Rattle.std.specs.Prelude.{◌≡◌, ◌≤◌, ◌<◌, ◌+◌, ◌/◌, ◌^◌, IsTrue};
+ghost use Rattle.std.specs.Prelude.{◌≡◌, ◌≤◌, ◌<◌, ◌+◌, ◌-◌, ◌*◌, ◌/◌, ◌%◌, ◌^◌, IsTrue};
 ghost use Rattle.rv64_exec.specs.Built.{is_width};
 ghost use Rattle.ref_machine.specs.Memory.{part, replaced};
 ghost use Rattle.ref_machine.specs.Perform.{extended};
@@ -136,5 +136,136 @@ pub(crate) fn extended(signed: bool, width: u8, number: u64) -> u64
         ones + number
     } else {
         number
+    }
+}
+
+/// The four bytes from `offset` in `first` on, which go on in `second`.
+fn four_over(first: u64, second: u64, offset: u64) -> u64
+    requires begins { offset < 8 }
+    requires ends { 8 < offset + 4 }
+    ensures { result ≡ part (first + 2 ^ 64 * second) offset 4 }
+{
+    match offset {
+        5 => first / 0x100_0000_0000 + 0x100_0000 * (second % 0x100),
+        6 => first / 0x1_0000_0000_0000 + 0x1_0000 * (second % 0x1_0000),
+        _ => first / 0x100_0000_0000_0000 + 0x100 * (second % 0x100_0000),
+    }
+}
+
+/// The eight bytes from `offset` in `first` on, which go on in `second`.
+fn eight_over(first: u64, second: u64, offset: u64) -> u64
+    requires begins { offset < 8 }
+    requires ends { 8 < offset + 8 }
+    ensures { result ≡ part (first + 2 ^ 64 * second) offset 8 }
+{
+    match offset {
+        1 => first / 0x100 + 0x100_0000_0000_0000 * (second % 0x100),
+        2 => first / 0x1_0000 + 0x1_0000_0000_0000 * (second % 0x1_0000),
+        3 => first / 0x100_0000 + 0x100_0000_0000 * (second % 0x100_0000),
+        4 => first / 0x1_0000_0000 + 0x1_0000_0000 * (second % 0x1_0000_0000),
+        5 => first / 0x100_0000_0000 + 0x100_0000 * (second % 0x100_0000_0000),
+        6 => first / 0x1_0000_0000_0000 + 0x1_0000 * (second % 0x1_0000_0000_0000),
+        _ => first / 0x100_0000_0000_0000 + 0x100 * (second % 0x100_0000_0000_0000),
+    }
+}
+
+/// The number in the bytes of an access that begins in `first` and goes on in `second`.
+pub(crate) fn over(first: u64, second: u64, offset: u64, width: u8) -> u64
+    requires width { IsTrue (is_width width) }
+    requires begins { offset < 8 }
+    requires ends { 8 < offset + width }
+    ensures number { result ≡ part (first + 2 ^ 64 * second) offset width }
+    ensures small { result < 256 ^ width }
+{
+    match width {
+        2 => first / 0x100_0000_0000_0000 + 0x100 * (second % 0x100),
+        4 => four_over(first, second, offset),
+        _ => eight_over(first, second, offset),
+    }
+}
+
+/// Both words with four bytes over their border replaced by those of `value`.
+fn replace_four_over(first: u64, second: u64, offset: u64, value: u64) -> (u64, u64)
+    requires begins { offset < 8 }
+    requires ends { 8 < offset + 4 }
+    ensures low { result.0 ≡ replaced (first + 2 ^ 64 * second) offset 4 value % 2 ^ 64 }
+    ensures high { result.1 ≡ replaced (first + 2 ^ 64 * second) offset 4 value / 2 ^ 64 }
+{
+    match offset {
+        5 => (
+            first % 0x100_0000_0000 + 0x100_0000_0000 * (value % 0x100_0000),
+            value % 0x1_0000_0000 / 0x100_0000 + 0x100 * (second / 0x100),
+        ),
+        6 => (
+            first % 0x1_0000_0000_0000 + 0x1_0000_0000_0000 * (value % 0x1_0000),
+            value % 0x1_0000_0000 / 0x1_0000 + 0x1_0000 * (second / 0x1_0000),
+        ),
+        _ => (
+            first % 0x100_0000_0000_0000 + 0x100_0000_0000_0000 * (value % 0x100),
+            value % 0x1_0000_0000 / 0x100 + 0x100_0000 * (second / 0x100_0000),
+        ),
+    }
+}
+
+/// Both words with eight bytes over their border replaced by those of `value`.
+fn replace_eight_over(first: u64, second: u64, offset: u64, value: u64) -> (u64, u64)
+    requires begins { offset < 8 }
+    requires ends { 8 < offset + 8 }
+    ensures low { result.0 ≡ replaced (first + 2 ^ 64 * second) offset 8 value % 2 ^ 64 }
+    ensures high { result.1 ≡ replaced (first + 2 ^ 64 * second) offset 8 value / 2 ^ 64 }
+{
+    match offset {
+        1 => (
+            first % 0x100 + 0x100 * (value % 0x100_0000_0000_0000),
+            value / 0x100_0000_0000_0000 + 0x100 * (second / 0x100),
+        ),
+        2 => (
+            first % 0x1_0000 + 0x1_0000 * (value % 0x1_0000_0000_0000),
+            value / 0x1_0000_0000_0000 + 0x1_0000 * (second / 0x1_0000),
+        ),
+        3 => (
+            first % 0x100_0000 + 0x100_0000 * (value % 0x100_0000_0000),
+            value / 0x100_0000_0000 + 0x100_0000 * (second / 0x100_0000),
+        ),
+        4 => (
+            first % 0x1_0000_0000 + 0x1_0000_0000 * (value % 0x1_0000_0000),
+            value / 0x1_0000_0000 + 0x1_0000_0000 * (second / 0x1_0000_0000),
+        ),
+        5 => (
+            first % 0x100_0000_0000 + 0x100_0000_0000 * (value % 0x100_0000),
+            value / 0x100_0000 + 0x100_0000_0000 * (second / 0x100_0000_0000),
+        ),
+        6 => (
+            first % 0x1_0000_0000_0000 + 0x1_0000_0000_0000 * (value % 0x1_0000),
+            value / 0x1_0000 + 0x1_0000_0000_0000 * (second / 0x1_0000_0000_0000),
+        ),
+        _ => (
+            first % 0x100_0000_0000_0000 + 0x100_0000_0000_0000 * (value % 0x100),
+            value / 0x100 + 0x100_0000_0000_0000 * (second / 0x100_0000_0000_0000),
+        ),
+    }
+}
+
+/// Both words with the bytes of an access over their border replaced by those of `value`.
+pub(crate) fn replace_over(
+    first: u64,
+    second: u64,
+    offset: u64,
+    width: u8,
+    value: u64,
+) -> (u64, u64)
+    requires width { IsTrue (is_width width) }
+    requires begins { offset < 8 }
+    requires ends { 8 < offset + width }
+    ensures low { result.0 ≡ replaced (first + 2 ^ 64 * second) offset width value % 2 ^ 64 }
+    ensures high { result.1 ≡ replaced (first + 2 ^ 64 * second) offset width value / 2 ^ 64 }
+{
+    match width {
+        2 => (
+            first % 0x100_0000_0000_0000 + 0x100_0000_0000_0000 * (value % 0x100),
+            value % 0x1_0000 / 0x100 + 0x100 * (second / 0x100),
+        ),
+        4 => replace_four_over(first, second, offset, value),
+        _ => replace_eight_over(first, second, offset, value),
     }
 }

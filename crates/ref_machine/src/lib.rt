@@ -3,10 +3,12 @@
 #![tactic(auto)]
 
 mod bytes;
+mod device;
 mod laws;
 mod loader;
 mod machine;
 mod reason;
+mod translation;
 
 pub use laws::{law_apart, law_grows, law_plain};
 pub use machine::PlainMachine;

@@ -1,25 +1,28 @@
 // The reference machine on one thread: each turn is one turn of the plain run.
-ghost use Rattle.std.specs.Prelude.{◌≡◌, ◌<◌, ◌≤◌, ◌+◌, ◌*◌, ◌%◌, IsNone, IfOk, IsTrue, IfSome, false, ◌^◌, None, Some, Option, if◌then◌else◌, MatchBool, option_map};
+ghost use Rattle.std.specs.Prelude.{◌≡◌, ◌<◌, ◌≤◌, ◌*◌, ◌/◌, ◌%◌, ◌^◌, ◌+◌, IsNone, IsTrue, IfOk, Some};
 ghost use Rattle.elf_load.specs.ImageOf.{IsImageOf};
 ghost use Rattle.step_laws.specs.Layout.{IsInLimits};
 ghost use Rattle.rv64_decode.specs.Encoding.{IsInRange};
 ghost use Rattle.rv64_exec.specs.Built as exec;
-ghost use Rattle.rv64_exec.specs.declared.needs.Need.{Need as TheNeed};
-ghost use Rattle.rv64_exec.specs.declared.needs.Answer.{Answer as TheAnswer};
-ghost use Rattle.rv64_exec.specs.Finish.{after, Answers};
+ghost use Rattle.rv64_exec.specs.Finish.{Answers};
 ghost use Rattle.rv64_exec.specs.Plan.{need_of};
 ghost use Rattle.ref_machine.specs.State.{initial, reset};
 ghost use Rattle.ref_machine.specs.PlainState as plain;
-ghost use Rattle.ref_machine.specs.Device.{device_value, finished};
+ghost use Rattle.ref_machine.specs.Access as access;
 ghost use Rattle.ref_machine.specs.Shows.{Shows, Turned, setup_of};
-ghost use Rattle.ref_machine.specs.declared.reason.Reason.{Reason as TheReason};
+ghost use Rattle.ref_machine.specs.Translation.{IsWord};
+ghost use Rattle.rv64_priv.specs.declared.state.Kind.{Kind as TheKind};
 
-use crate::bytes::{extended, part, replace};
-use crate::loader::word_at;
+mod serving;
+
+use crate::loader::load;
 use crate::reason::Reason;
-use elf_load::{Image, Part};
+use crate::translation::{Fault, fetch_place};
+use elf_load::Image;
 use rv64_decode::{Instr, decode};
 use rv64_exec::{Answer, Arch, Need, finish, is_built, plan};
+use rv64_priv::{takes_interrupts, trap};
+use serving::Served;
 use std::alloc::Global;
 use std::marker::Model;
 use step_laws::{Layout, RAM_BASE};
@@ -28,52 +31,42 @@ use vm_io::NoMemory;
 /// How many bytes the console takes.
 const CONSOLE_BYTES: usize = 1_048_576;
 
-/// The UART's registers, of which the first prints a byte.
-const UART: u64 = 0x1000_0000;
+/// The cause of an illegal instruction, and of the supervisor's software interrupt.
+const ILLEGAL_INSTRUCTION: u64 = 2;
 
-const UART_LAST: u64 = 0x1000_0007;
-
-/// The UART's line status: 0x60 says that it is idle and takes a byte.
-const UART_STATUS: u64 = 0x1000_0005;
-
-/// The finisher: a store of 0x5555 here ends the machine with a pass, and one of 0x3333 with a fail.
-const FINISHER: u64 = 0x10_0000;
+const SOFTWARE_INTERRUPT: u64 = (1 << 63) + 1;
 
 /// A hart as a machine begins it: all registers and CSRs 0, supervisor mode, no translation.
-const RESET: Arch = Arch {
-    x: [0; 32],
-    pc: 0,
-    user: false,
-    sstatus: 0,
-    sie: 0,
-    stvec: 0,
-    sscratch: 0,
-    sepc: 0,
-    scause: 0,
-    stval: 0,
-    satp: 0,
-    hold: None,
-};
-
-/// What came of a need: its answer, and the reason that it gave to end the machine.
-#[derive(Clone, Copy)]
-struct Served {
-    answer: Answer,
-    reason: Option<Reason>,
+fn begun(pc: u64) -> Arch
+    requires { pc % 4 ≡ 0 }
+    ensures { result ≡ reset pc }
+{
+    Arch {
+        x: [0; 32],
+        pc,
+        user: false,
+        sstatus: 0,
+        sie: 0,
+        stvec: 0,
+        sscratch: 0,
+        sepc: 0,
+        scause: 0,
+        stval: 0,
+        satp: 0,
+        hold: None,
+    }
 }
 
-const DONE: Served = Served {
-    answer: Answer::Nothing,
-    reason: None,
-};
-
-/// The machine: its RAM by words, hart 0, and what it printed. Until a hart can start another, all other harts
-/// stand as they began.
+/// The machine: its RAM by words, the harts' bits of software interrupts, hart 0, and what it printed. Until a
+/// hart can start another, all other harts stand as they began.
 #[derive(Drop)]
 pub struct PlainMachine {
     harts: u8,
+    pages: u32,
     ram: Vec<u64>,
+    ipi: u64,
     arch: Arch,
+    others: Arch,
     count: u64,
     limit: u64,
     console: Vec<u8>,
@@ -90,48 +83,18 @@ impl Model for PlainMachine {
     ghost invariant = { IsKept };
 }
 
-/// RAM of so many words as the parts of a file give it.
-fn load(alloc: Global, parts: &[Part], file: &[u8], words: usize) -> Result<Vec<u64>, NoMemory>
-    requires { words ≤ 512 * 4096 }
-    ensures { IfOk result (λ ram. plain.IsLoaded file.now parts.now words ram.items) }
+/// The half of a word of RAM that stands at a physical address.
+#[inline]
+fn half_at(word: u64, pa: u64) -> u32
+    requires { pa % 4 ≡ 0 }
+    ensures { result ≡ word / 256 ^ (pa % 8) % 2 ^ 32 }
 {
-    let Ok(mut ram) = Vec::with_capacity(alloc, words) else {
-        return Err(NoMemory);
+    let half = if pa % 8 == 0 {
+        word
+    } else {
+        word / 0x1_0000_0000
     };
-    for i in 0..words {
-        if ram
-            .push(word_at(file, parts, RAM_BASE + 8 * i as u64))
-            .is_err()
-        {
-            return Err(NoMemory);
-        }
-    }
-    Ok(ram)
-}
-
-/// What a store to the finisher ends the machine with, if it does.
-fn finisher(value: u64) -> Option<Reason>
-    ensures { result ≡ plain.finisher_reason (finished value) }
-{
-    match value % 0x1_0000 {
-        0x5555 => Some(Reason::Pass),
-        0x3333 => Some(Reason::Fail((value / 0x1_0000 % 0x1_0000) as u16)),
-        _ => None,
-    }
-}
-
-/// What a load from a device gives, where there is one: the UART is always ready to print.
-fn device_number(va: u64, width: u8) -> Option<u64>
-    ensures number { result ≡ device_value va width }
-    ensures small { IfSome result (λ number. number < 256 ^ width) }
-{
-    if width == 1 && UART <= va && va <= UART_LAST {
-        return Some(if va == UART_STATUS { 0x60 } else { 0 });
-    }
-    if width == 4 && va == FINISHER {
-        return Some(0);
-    }
-    None
+    (half % 0x1_0000_0000) as u32
 }
 
 impl PlainMachine {
@@ -157,12 +120,15 @@ impl PlainMachine {
         let Ok(console) = Vec::with_capacity(alloc, CONSOLE_BYTES) else {
             return Err(NoMemory);
         };
-        let mut arch = RESET;
-        arch.pc = image.start;
+        let arch = begun(image.start);
+        let others = begun(0);
         Ok(PlainMachine {
             harts: layout.harts,
+            pages: layout.pages,
             ram,
+            ipi: 0,
             arch,
+            others,
             count: 0,
             limit,
             console,
@@ -182,7 +148,7 @@ impl PlainMachine {
         requires { hart < self.now.harts }
         ensures { result.now ≡ plain.arch_of self.now hart }
     {
-        if hart == 0 { &self.arch } else { &RESET }
+        if hart == 0 { &self.arch } else { &self.others }
     }
 
     /// How many instructions a hart has retired or trapped on.
@@ -211,176 +177,111 @@ impl PlainMachine {
         self.reason
     }
 
-    /// A turn of hart 0. A form that isn't built ends the machine, and nothing else is done.
+    /// A turn of hart 0: an interrupt that is due, else its next instruction.
     #[inline]
     fn take_turn(&mut self)
         requires { IsNone self.old.reason }
-        ensures { MatchBool (plain.is_in self.old.ram self.old.arch.pc) (plain.IsTurnIn self.old self.new) (self.new ≡ plain.unbuilt self.old) }
+        ensures { plain.IsTurn self.old self.new }
     {
-        let Some(word) = self.fetch() else {
-            self.reason = Some(Reason::Unbuilt);
+        if self.is_interrupted() {
+            trap(&mut self.arch, SOFTWARE_INTERRUPT, 0);
+            return;
+        }
+        match self.fetch() {
+            Ok(word) => self.execute(word),
+            Err(fault) => self.take_fault(fault.cause, fault.tval),
+        }
+    }
+
+    /// An enabled interrupt is pending.
+    #[inline]
+    fn is_interrupted(&self) -> bool
+        ensures { result ≡ plain.is_pending self.now }
+    {
+        self.ipi % 2 == 1 && takes_interrupts(&self.arch)
+    }
+
+    /// The hart's next word.
+    #[inline]
+    fn fetch(&self) -> Result<u32, Fault>
+        ensures { IsWord self.now.ram (access.spot_of TheKind.Fetch self.now.arch.pc (plain.walk_end self.now TheKind.Fetch self.now.arch.pc)) result }
+    {
+        let pa = fetch_place(self.ram.as_slice(), self.pages, &self.arch, self.arch.pc)?;
+        Ok(half_at(self.ram[((pa - RAM_BASE) / 8) as usize], pa))
+    }
+
+    /// Does the word's instruction, where it is built; a word that is none traps.
+    #[inline]
+    fn execute(&mut self, word: u32)
+        requires { IsNone self.old.reason }
+        ensures { plain.IsDone self.old self.new word }
+    {
+        let Some(instr) = decode(word) else {
+            self.take_fault(ILLEGAL_INSTRUCTION, u64::from(word));
             return;
         };
-        match decode(word) {
-            Some(instr) => self.execute(&instr),
+        if !is_built(&instr) {
+            self.reason = Some(Reason::Unbuilt);
+            return;
+        }
+        match plan(&self.arch, &instr) {
+            // most instructions
+            Need::Nothing => {
+                finish(&mut self.arch, &instr, Answer::Nothing);
+                self.counted(None);
+            }
+            need => self.serve_and_retire(&instr, &need),
+        }
+    }
+
+    /// Does what an instruction needs and finishes it, where that need is built.
+    #[inline(never)]
+    fn serve_and_retire(&mut self, instr: &Instr, need: &Need)
+        requires going { IsNone self.old.reason }
+        requires range { IsInRange instr.now }
+        requires built { IsTrue (exec.is_built instr.now) }
+        requires need { need.now ≡ need_of self.old.arch instr.now }
+        ensures { self.new ≡ plain.after_effect self.old instr.now (plain.effect_of_need self.old need.now) }
+    {
+        match self.serve(need) {
+            Some(served) => self.retire(instr, served),
             None => self.reason = Some(Reason::Unbuilt),
         }
     }
 
-    /// The hart's next word, where pc lies in RAM.
-    #[inline]
-    fn fetch(&self) -> Option<u32>
-        ensures { result ≡ (if plain.is_in self.now.ram self.now.arch.pc then Some (plain.next_word self.now) else None) }
+    /// Takes a fault that no instruction answers, and counts it.
+    fn take_fault(&mut self, cause: u64, tval: u64)
+        requires { IsNone self.old.reason }
+        ensures { self.new ≡ plain.faulted self.old cause tval }
     {
-        let pc = self.arch.pc;
-        if pc < RAM_BASE {
-            return None;
-        }
-        let i = (pc - RAM_BASE) / 8;
-        if i >= self.ram.len() as u64 {
-            return None;
-        }
-        let word = self.ram[i as usize];
-        let half = if pc % 8 == 0 {
-            word
-        } else {
-            word / 0x1_0000_0000
-        };
-        Some((half % 0x1_0000_0000) as u32)
+        trap(&mut self.arch, cause, tval);
+        self.counted(None);
     }
 
-    /// Does the instruction, where it is built.
-    #[inline]
-    fn execute(&mut self, instr: &Instr)
-        requires going { IsNone self.old.reason }
-        requires range { IsInRange instr.now }
-        ensures { self.new ≡ plain.after_word self.old (Some instr.now) }
-    {
-        if is_built(instr) {
-            let need = plan(&self.arch, instr);
-            if let Some(served) = self.serve(&need) {
-                self.retire(instr, served);
-                return;
-            }
-        }
-        self.reason = Some(Reason::Unbuilt);
-    }
-
-    /// Does what an instruction needs, where that is built.
-    #[inline]
-    fn serve(&mut self, need: &Need) -> Option<Served>
-        requires { exec.IsBuiltNeed need.now }
-        ensures served { plain.effect_of_need self.old need.now ≡ option_map (λ served. record { answer = served.answer; ram = self.new.ram; console = self.new.console; reason = served.reason }) result }
-        ensures done { IfSome result (λ served. exec.IsDone served.answer × Answers need.now served.answer) }
-        ensures rest { self.new ≡ record self.old { ram = self.new.ram; console = self.new.console } }
-        ensures none { IsNone result → self.new ≡ self.old }
-    {
-        match *need {
-            Need::Nothing => Some(DONE),
-            Need::Load { va, width, signed } => self.load(va, width, signed),
-            Need::Store { va, width, value } => self.store(va, width, value),
-            _ => None,
-        }
-    }
-
-    #[inline]
-    fn load(&self, va: u64, width: u8, signed: bool) -> Option<Served>
-        requires { exec.IsBuiltNeed (TheNeed.Load va width signed) }
-        ensures served { plain.load_effect self.now width va signed ≡ option_map (λ served. record { answer = served.answer; ram = self.now.ram; console = self.now.console; reason = served.reason }) result }
-        ensures done { IfSome result (λ served. exec.IsDone served.answer × Answers (TheNeed.Load va width signed) served.answer) }
-    {
-        let number = self.number_at(va, width)?;
-        Some(Served {
-            answer: Answer::Value(extended(signed, width, number)),
-            reason: None,
-        })
-    }
-
-    #[inline]
-    fn number_at(&self, va: u64, width: u8) -> Option<u64>
-        requires { exec.IsBuiltNeed (TheNeed.Load va width false) }
-        ensures number { result ≡ plain.number_at self.now width va }
-        ensures small { IfSome result (λ number. number < 256 ^ width) }
-    {
-        if va < RAM_BASE {
-            return device_number(va, width);
-        }
-        let i = (va - RAM_BASE) / 8;
-        let offset = va % 8;
-        if i >= self.ram.len() as u64 || offset + width as u64 > 8 {
-            return None;
-        }
-        Some(part(self.ram[i as usize], offset, width))
-    }
-
-    #[inline]
-    fn store(&mut self, va: u64, width: u8, value: u64) -> Option<Served>
-        requires { exec.IsBuiltNeed (TheNeed.Store va width value) }
-        ensures served { plain.store_effect self.old width va value ≡ option_map (λ served. record { answer = served.answer; ram = self.new.ram; console = self.new.console; reason = served.reason }) result }
-        ensures done { IfSome result (λ served. exec.IsDone served.answer × Answers (TheNeed.Store va width value) served.answer) }
-        ensures rest { self.new ≡ record self.old { ram = self.new.ram; console = self.new.console } }
-        ensures none { IsNone result → self.new ≡ self.old }
-    {
-        if va < RAM_BASE {
-            let reason = self.store_device(va, width, value)?;
-            return Some(Served { reason, ..DONE });
-        }
-        let i = (va - RAM_BASE) / 8;
-        let offset = va % 8;
-        if i >= self.ram.len() as u64 || offset + width as u64 > 8 {
-            return None;
-        }
-        self.ram[i as usize] = replace(self.ram[i as usize], offset, width, value);
-        Some(DONE)
-    }
-
-    fn store_device(&mut self, va: u64, width: u8, value: u64) -> Option<Option<Reason>>
-        requires { va < 2147483648 }
-        ensures served { plain.store_effect self.old width va value ≡ option_map (λ reason. record { answer = TheAnswer.Nothing; ram = self.new.ram; console = self.new.console; reason = reason }) result }
-        ensures rest { self.new ≡ record self.old { console = self.new.console } }
-        ensures none { IsNone result → self.new ≡ self.old }
-    {
-        if width == 1 && UART <= va && va <= UART_LAST {
-            return Some(if va == UART {
-                self.print((value % 0x100) as u8)
-            } else {
-                None
-            });
-        }
-        if width == 4 && va == FINISHER {
-            return Some(finisher(value));
-        }
-        None
-    }
-
-    /// Appends a byte to the console; where that is full, this is the reason.
-    fn print(&mut self, byte: u8) -> Option<Reason>
-        ensures printed { plain.printed self.old byte ≡ record { answer = TheAnswer.Nothing; ram = self.old.ram; console = self.new.console; reason = result } }
-        ensures rest { self.new ≡ record self.old { console = self.new.console } }
-    {
-        if self.console.len() >= CONSOLE_BYTES {
-            return Some(Reason::OutFull);
-        }
-        let _pushed = self.console.push(byte);
-        None
-    }
-
-    /// Finishes the instruction, and counts it: at the limit that is the reason, where it gave none itself.
+    /// Finishes the instruction, and counts it.
     #[inline]
     fn retire(&mut self, instr: &Instr, served: Served)
         requires going { IsNone self.old.reason }
         requires range { IsInRange instr.now }
         requires built { IsTrue (exec.is_built instr.now) }
-        requires done { exec.IsDone served.answer }
         requires form { Answers (need_of self.old.arch instr.now) served.answer }
-        ensures { self.new ≡ plain.retired self.old instr.now (record { answer = served.answer; ram = self.old.ram; console = self.old.console; reason = served.reason }) }
+        ensures { self.new ≡ plain.retired self.old instr.now (record { answer = served.answer; ram = self.old.ram; ipi = self.old.ipi; console = self.old.console; reason = served.reason }) }
     {
         finish(&mut self.arch, instr, served.answer);
+        self.counted(served.reason);
+    }
+
+    /// Counts an instruction: at the limit that is the reason, where the instruction gave none itself.
+    #[inline]
+    fn counted(&mut self, reason: Option<Reason>)
+        requires { IsNone self.old.reason }
+        ensures { self.new ≡ record self.old { count = self.old.count + 1; reason = plain.limited self.old reason } }
+    {
         self.count += 1;
-        self.reason = match served.reason {
-            Some(why) => Some(why),
-            None if self.count == self.limit => Some(Reason::Limit(0)),
-            None => None,
-        };
+        if reason.is_some() {
+            self.reason = reason;
+        } else if self.count == self.limit {
+            self.reason = Some(Reason::Limit(0));
+        }
     }
 }
