@@ -1,9 +1,9 @@
 -- The machine's turns are one run, and what was written of it is the cause of the answer.
 use Rattle.std.proofs.Common.{inl, inr, ◌≡◌, refl, ℕ, ◌≤◌, ◌++◌, List, [], ◌∷◌, length, Some, None, Option, ap, sym, ◌∙◌, subst, ◌<◌, arith}
-use Rattle.std.specs.Prelude.{◌⊎◌, replicate, IfSome, IsTrue, Result, Ok, Err, Bool, false}
+use Rattle.std.specs.Prelude.{◌⊎◌, replicate, IfSome, Result, Ok, Err}
 use Rattle.elf_load.specs.declared.image.BadImage.{BadImage}
 use Rattle.elf_load.specs.Loaded.{Loaded}
-use Rattle.elf_load.specs.ImageOf.{is_built, image_of}
+use Rattle.elf_load.specs.ImageOf.{image_of}
 use Rattle.ref_machine.specs.declared.reason.Reason.{Reason}
 use Rattle.ref_machine.specs.Event.{Event}
 use Rattle.ref_machine.specs.State.{Setup, State}
@@ -36,7 +36,6 @@ one_run files p q turns s ran =
       file_read = s.file_read;
       text_read = s.text_read;
       image = s.image;
-      built = s.built;
       is_image = s.is_image;
       turns = turns;
       is_order = s.is_order;
@@ -57,7 +56,7 @@ ended call (Some (Reason.Limit hart)) e = e
 ended call (Some Reason.OutFull) e = e
 ended call (Some Reason.AllStopped) e = e
 ended call (Some Reason.Stopped) e = e
-ended call (Some Reason.Unbuilt) e = inr e
+ended call (Some Reason.Unbuilt) e = e
 
 -- Completeness: each other answer has a cause that is ruled out.
 told_one : (name : Name) (bytes told : List ℕ) → name.told ≡ Some told → WereRead name bytes → bytes ≡ told
@@ -74,9 +73,6 @@ none_some o x e f = cc
 ok_err : {A E : Type 0} (r : Result A E) (x : A) (e : E) → r ≡ Ok x → r ≡ Err e → ⊥
 ok_err r x e f g = cc
 
-true_false : (b : Bool) → IsTrue b → b ≡ false → ⊥
-true_false b e f = cc
-
 -- what a call came to: a refusal, a machine's end, or a sink that failed
 abbrev Origin : Status → Call → Type 0
 Origin status call = ((r : Refusal) × (status ≡ status_refused r) × CauseOf call.files r)
@@ -89,8 +85,7 @@ origin call Status.TooLong cause = inl (Refusal.TooLong, refl, cause.cause)
 origin call (Status.BadImage kind) cause = inl (Refusal.BadImage kind, refl, cause.cause)
 origin call (Status.BadOrder line) cause = inl (Refusal.BadOrder line, refl, cause.cause)
 origin call Status.NoMemory cause = inl (Refusal.NoMemory, refl, cause.cause)
-origin call Status.Unbuilt (inl cause) = inl (Refusal.Unbuilt, refl, cause.cause)
-origin call Status.Unbuilt (inr e) = inr (inl (Some Reason.Unbuilt, refl, e))
+origin call Status.Unbuilt e = inr (inl (Some Reason.Unbuilt, refl, e))
 origin call Status.WriteFault cut = inr (inr cut)
 origin call Status.Done e = inr (inl (Some Reason.Pass, refl, e))
 origin call Status.OrderEnd e = inr (inl (None, refl, e))
@@ -119,9 +114,6 @@ no_cause call (Refusal.BadImage kind) f k bad =
 no_cause call (Refusal.BadOrder line) f k bad =
     let same : bad.1.text ≡ k.text = told_one call.files.order bad.1.text k.text k.text_told bad.1.were_read in
     absurd (none_some (order_of k.text) k.turns (ap order_of (sym same) ∙ bad.1.refused) k.is_order)
-no_cause call Refusal.Unbuilt f k elf =
-    let same : elf.file ≡ k.file = told_one call.files.elf elf.file k.file k.file_told elf.were_read in
-    absurd (true_false (is_built k.file) k.built (ap is_built (sym same) ∙ elf.unbuilt))
 
 pub complete : (call : Call) (status : Status) → CauseOfStatus status call → IsComplete status call
 complete call status cause f k = go (origin call status cause)
@@ -151,9 +143,6 @@ bad_cause call kind (Refusal.BadImage other) b bad =
   where
     one_kind : (r : Result Loaded BadImage) (x y : BadImage) → r ≡ Err x → r ≡ Err y → Status.BadImage x ≡ Status.BadImage y
     one_kind r x y e f = cc
-bad_cause call kind Refusal.Unbuilt b elf =
-    let same : elf.file ≡ b.file = told_one call.files.elf elf.file b.file b.told elf.were_read in
-    absurd (true_false (is_built b.file) b.built (ap is_built (sym same) ∙ elf.unbuilt))
 
 pub complete_image : (call : Call) (status : Status) → CauseOfStatus status call → IsCompleteImage status call
 complete_image call status cause kind b = go (origin call status cause)
@@ -182,9 +171,6 @@ order_cause call (Refusal.BadOrder line) b bad = inr (ap Status.BadOrder bad.1.f
 order_cause call (Refusal.BadImage kind) b bad =
     let same : bad.file ≡ b.file = told_one call.files.elf bad.file b.file b.file_told bad.were_read in
     absurd (ok_err (image_of b.file 1024) b.image kind b.is_image (ap (λ x. image_of x 1024) (sym same) ∙ bad.refused))
-order_cause call Refusal.Unbuilt b elf =
-    let same : elf.file ≡ b.file = told_one call.files.elf elf.file b.file b.file_told elf.were_read in
-    absurd (true_false (is_built b.file) b.built (ap is_built (sym same) ∙ elf.unbuilt))
 
 pub complete_order : (call : Call) (status : Status) → CauseOfStatus status call → IsCompleteOrder status call
 complete_order call status cause b = go (origin call status cause)

@@ -1,9 +1,9 @@
 -- Each answer of a call, with its cause.
-use Rattle.std.specs.Prelude.{◌≡◌, ◌⊎◌, ℕ, ◌≤◌, Bool, true, false, List, length, Option, Some, None, IfSome, IsTrue, Ok, Err}
+use Rattle.std.specs.Prelude.{◌≡◌, ◌⊎◌, ℕ, ◌≤◌, Bool, true, false, List, length, Option, Some, None, IfSome, Ok, Err}
 use Rattle.vm_io.specs.Faults.{Rose}
 use Rattle.elf_load.specs.Loaded.{Loaded}
 use Rattle.elf_load.specs.declared.image.BadImage.{BadImage}
-use Rattle.elf_load.specs.ImageOf.{image_of, is_built}
+use Rattle.elf_load.specs.ImageOf.{image_of}
 use Rattle.ref_machine.specs.declared.reason.Reason.{Reason}
 use Rattle.tlbvm.specs.declared.start.Refusal.{Refusal}
 use Rattle.tlbvm.specs.declared.status.Status.{Status}
@@ -22,7 +22,6 @@ status_refused Refusal.TooLong = Status.TooLong
 status_refused (Refusal.BadImage kind) = Status.BadImage kind
 status_refused (Refusal.BadOrder line) = Status.BadOrder line
 status_refused Refusal.NoMemory = Status.NoMemory
-status_refused Refusal.Unbuilt = Status.Unbuilt
 
 -- the cause of each answer on a line
 abbrev pub CauseOfStatus : Status → Call → Type 0
@@ -32,7 +31,6 @@ CauseOfStatus Status.TooLong call = IsRefused Refusal.TooLong call
 CauseOfStatus (Status.BadImage kind) call = IsRefused (Refusal.BadImage kind) call
 CauseOfStatus (Status.BadOrder line) call = IsRefused (Refusal.BadOrder line) call
 CauseOfStatus Status.NoMemory call = IsRefused Refusal.NoMemory call
-CauseOfStatus Status.Unbuilt call = IsRefused Refusal.Unbuilt call ⊎ HasEnded (Some Reason.Unbuilt) call
 CauseOfStatus Status.WriteFault call = IsCutShort call
 CauseOfStatus Status.Done call = HasEnded (Some Reason.Pass) call
 CauseOfStatus Status.OrderEnd call = HasEnded None call
@@ -41,6 +39,7 @@ CauseOfStatus (Status.Limit hart) call = HasEnded (Some (Reason.Limit hart)) cal
 CauseOfStatus Status.OutFull call = HasEnded (Some Reason.OutFull) call
 CauseOfStatus Status.AllStopped call = HasEnded (Some Reason.AllStopped) call
 CauseOfStatus Status.Stopped call = HasEnded (Some Reason.Stopped) call
+CauseOfStatus Status.Unbuilt call = HasEnded (Some Reason.Unbuilt) call
 
 -- the answers that come only where a machine has ended
 abbrev pub is_end : Status → Bool
@@ -50,7 +49,6 @@ is_end Status.TooLong = false
 is_end (Status.BadImage kind) = false
 is_end (Status.BadOrder line) = false
 is_end Status.NoMemory = false
-is_end Status.Unbuilt = false
 is_end _ = true
 
 -- THE HEADLINE, in its part on `plain` lines: the machine's memory, registers and output are those of one run of the
@@ -58,13 +56,12 @@ is_end _ = true
 abbrev pub IsOneRun : Call → Type 0
 IsOneRun call = ((reason : Option Reason) × HasEnded reason call) ⊎ IsCutShort call
 
--- no read of the ELF file failed, and its bytes are told, within the limit, of a built form, and no image
+-- no read of the ELF file failed, and its bytes are told, within the limit, and no image
 pub record IsBadOnly (call : Call) (kind : BadImage) : Type 0 where
   pub no_fault : HasFailed call.files.elf → ⊥
   pub file : List ℕ
   pub told : call.files.elf.told ≡ Some file
   pub within : length file ≤ 67108864
-  pub built : IsTrue (is_built file)
   pub refused : image_of file 1024 ≡ Err kind
 
 -- then the answer is this, or there was no memory
@@ -78,7 +75,7 @@ pub record IsFaultless (call : Call) : Type 0 where
   pub out_took : Rose call.out.before call.out.behind → ⊥
   pub log_took : Rose call.log.before call.log.behind → ⊥
 
--- the bytes of both names are told and within the limit, the file is accepted and built, and so is the order
+-- the bytes of both names are told and within the limit, the file is accepted, and so is the order
 pub record IsReady (call : Call) : Type 0 where
   pub file : List ℕ
   pub text : List ℕ
@@ -87,13 +84,11 @@ pub record IsReady (call : Call) : Type 0 where
   pub file_within : length file ≤ 67108864
   pub text_within : length text ≤ 67108864
   pub image : Loaded
-  pub built : IsTrue (is_built file)
   pub is_image : image_of file 1024 ≡ Ok image
   pub turns : ℕ
   pub is_order : order_of text ≡ Some turns
 
--- no read of the two names failed, the bytes of both are told and within the limit, the file is accepted and built, and the
--- order is none
+-- no read of the two names failed, the bytes of both are told and within the limit, the file is accepted, and the order is none
 pub record IsBadOrderOnly (call : Call) : Type 0 where
   pub no_elf_fault : HasFailed call.files.elf → ⊥
   pub no_order_fault : HasFailed call.files.order → ⊥
@@ -104,7 +99,6 @@ pub record IsBadOrderOnly (call : Call) : Type 0 where
   pub file_within : length file ≤ 67108864
   pub text_within : length text ≤ 67108864
   pub image : Loaded
-  pub built : IsTrue (is_built file)
   pub is_image : image_of file 1024 ≡ Ok image
   pub refused : order_of text ≡ None
 

@@ -1,10 +1,10 @@
 -- What a call on a `plain` line read, what it ran, what it wrote, and the cause of each answer.
-use Rattle.std.specs.Prelude.{◌≡◌, ◌⊎◌, ℕ, false, ◌<◌, ◌≤◌, List, length, take, replicate, Option, Some, None, IfSome, IsTrue, Ok, Err}
+use Rattle.std.specs.Prelude.{◌≡◌, ◌⊎◌, ℕ, ◌<◌, ◌≤◌, List, length, take, replicate, Option, Some, None, IfSome, Ok, Err}
 use Rattle.std.specs.Io.KnownBytes.{Appends}
 use Rattle.vm_io.specs.Faults.{Rose}
 use Rattle.elf_load.specs.Loaded.{Loaded}
 use Rattle.elf_load.specs.declared.image.BadImage.{BadImage}
-use Rattle.elf_load.specs.ImageOf.{image_of, is_built}
+use Rattle.elf_load.specs.ImageOf.{image_of}
 use Rattle.step_laws.specs.declared.words.Layout.{Layout}
 use Rattle.ref_machine.specs.declared.reason.Reason.{Reason}
 use Rattle.ref_machine.specs.Event.{Event}
@@ -56,25 +56,18 @@ HasFailed name = Rose name.before name.behind
 abbrev pub IsTooLong : Name → Type 0
 IsTooLong name = IfSome name.told (λ told. 67108864 < length told)
 
--- the ELF file is accepted and of the built form
+-- the ELF file is accepted
 pub record IsAccepted (elf : Name) : Type 0 where
   pub file : List ℕ
   pub were_read : WereRead elf file
   pub image : Loaded
-  pub built : IsTrue (is_built file)
   pub is_image : image_of file 1024 ≡ Ok image
 
 -- the first check that the ELF file fails
 pub record IsBadFile (elf : Name) (kind : BadImage) : Type 0 where
   pub file : List ℕ
   pub were_read : WereRead elf file
-  pub built : IsTrue (is_built file)
   pub refused : image_of file 1024 ≡ Err kind
-
-pub record IsUnbuiltFile (elf : Name) : Type 0 where
-  pub file : List ℕ
-  pub were_read : WereRead elf file
-  pub unbuilt : is_built file ≡ false
 
 -- the order has one line, which is bad
 pub record IsBadOrder (order : Name) (line : ℕ) : Type 0 where
@@ -89,7 +82,6 @@ CauseOf files Refusal.ReadFault = HasFailed files.elf ⊎ (IsAccepted files.elf 
 CauseOf files Refusal.TooLong = IsTooLong files.elf ⊎ (IsAccepted files.elf × IsTooLong files.order)
 CauseOf files (Refusal.BadImage kind) = IsBadFile files.elf kind
 CauseOf files (Refusal.BadOrder line) = IsAccepted files.elf × IsBadOrder files.order line
-CauseOf files Refusal.Unbuilt = IsUnbuiltFile files.elf
 CauseOf files Refusal.NoMemory = Unit {0}
 
 -- THE MACHINE
@@ -101,7 +93,6 @@ pub record IsStarted (files : Files) (machine : PlainState) (turns : ℕ) : Type
   pub file_read : WereRead files.elf file
   pub text_read : WereRead files.order text
   pub image : Loaded
-  pub built : IsTrue (is_built file)
   pub is_image : image_of file 1024 ≡ Ok image
   pub is_order : order_of text ≡ Some turns
   pub first : Shows (plain_setup file image) machine (initial (plain_setup file image))
@@ -114,7 +105,6 @@ pub record OneRun (files : Files) (reason : Option Reason) (output : List ℕ) :
   pub file_read : WereRead files.elf file
   pub text_read : WereRead files.order text
   pub image : Loaded
-  pub built : IsTrue (is_built file)
   pub is_image : image_of file 1024 ≡ Ok image
   pub turns : ℕ
   pub is_order : order_of text ≡ Some turns

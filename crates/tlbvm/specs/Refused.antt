@@ -10,5 +10,4 @@ refusal_of_read ReadErr.NoMemory = Refusal.NoMemory
 
 abbrev pub refusal_of_image : ImageErr → Refusal
 refusal_of_image (ImageErr.Bad kind) = Refusal.BadImage kind
-refusal_of_image ImageErr.Unbuilt = Refusal.Unbuilt
 refusal_of_image ImageErr.NoMemory = Refusal.NoMemory

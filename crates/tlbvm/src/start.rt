@@ -29,7 +29,6 @@ pub(crate) enum Refusal {
     /// The number of the order's first bad line.
     BadOrder(u64),
     NoMemory,
-    Unbuilt,
 }
 
 /// A machine at its first state, and how many turns its order gives.
@@ -80,7 +79,6 @@ impl From<ImageErr> for Refusal {
     fn from(e: ImageErr) -> Refusal {
         match e {
             ImageErr::Bad(kind) => Refusal::BadImage(kind),
-            ImageErr::Unbuilt => Refusal::Unbuilt,
             ImageErr::NoMemory => Refusal::NoMemory,
         }
     }

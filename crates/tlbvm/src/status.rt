@@ -37,7 +37,7 @@ pub enum Status {
     OrderEnd,
     /// The script stopped the machine.
     Stopped,
-    /// The file or what the guest came to isn't built yet.
+    /// What the guest came to isn't built yet.
     Unbuilt,
 }
 

@@ -1,5 +1,5 @@
 // The top call.
-ghost use Rattle.std.specs.Prelude.{◌≡◌, ◌⊎◌, ◌↔◌, ℕ, Option, None, Some, IsTrue, map, string_bytes};
+ghost use Rattle.std.specs.Prelude.{◌≡◌, ◌↔◌, ℕ, Option, None, Some, IsTrue, map, string_bytes};
 ghost use Rattle.elf_load.specs.declared.image.BadImage.{BadImage as TheBadImage};
 ghost use Rattle.ref_machine.specs.declared.reason.Reason.{Reason as TheReason};
 ghost use Rattle.tlbvm.specs.Line.{line_of};
@@ -40,7 +40,6 @@ fn status_refused(refusal: Refusal) -> Status
         Refusal::BadImage(kind) => Status::BadImage(kind),
         Refusal::BadOrder(line) => Status::BadOrder(line),
         Refusal::NoMemory => Status::NoMemory,
-        Refusal::Unbuilt => Status::Unbuilt,
     }
 }
 
@@ -105,11 +104,6 @@ pub fn tlbvm_still<F: Images, O: Sink, L: Sink>(
         (call_of F.told F.faults O.taken O.faults L.taken L.faults images.old images.new out.old out.new log.old log.new) (map string_bytes words.now)
         (IsRefused TheRefusal.NoMemory) }
 
-    // Before the start, or the run's first reason.
-    ensures unbuilt { result ≡ Status.Unbuilt → OnLine
-        (call_of F.told F.faults O.taken O.faults L.taken L.faults images.old images.new out.old out.new log.old log.new) (map string_bytes words.now)
-        (λ call. IsRefused TheRefusal.Unbuilt call ⊎ HasEnded (Some TheReason.Unbuilt) call) }
-
     // The run's first reason, or none behind the order's last turn; `out` has its output and `log` its report.
     ensures done { result ≡ Status.Done → OnLine
         (call_of F.told F.faults O.taken O.faults L.taken L.faults images.old images.new out.old out.new log.old log.new) (map string_bytes words.now)
@@ -132,6 +126,9 @@ pub fn tlbvm_still<F: Images, O: Sink, L: Sink>(
     ensures stopped { result ≡ Status.Stopped → OnLine
         (call_of F.told F.faults O.taken O.faults L.taken L.faults images.old images.new out.old out.new log.old log.new) (map string_bytes words.now)
         (HasEnded (Some TheReason.Stopped)) }
+    ensures unbuilt { result ≡ Status.Unbuilt → OnLine
+        (call_of F.told F.faults O.taken O.faults L.taken L.faults images.old images.new out.old out.new log.old log.new) (map string_bytes words.now)
+        (HasEnded (Some TheReason.Unbuilt)) }
 
     // A sink failed: what it took is a prefix of what was due, and `log` got nothing until `out` was whole.
     ensures write_fault { result ≡ Status.WriteFault → OnLine
