@@ -57,7 +57,7 @@ const PASS: [u32; 4] = [
 ];
 
 /// Each leaves in x6 what it came to, and in x7 what is wanted.
-const BUILT: [Fragment; 20] = [
+const BUILT: [Fragment; 24] = [
     (
         "lb",
         &[
@@ -250,22 +250,45 @@ const BUILT: [Fragment; 20] = [
             0x0000_1363, // bne x0, x0, pc + 6
         ],
     ),
-];
-
-/// Each comes to what isn't built.
-const NOT_BUILT: [Fragment; 7] = [
     (
-        "a load over two words",
+        "lh over two words",
+        &[
+            0xff7a_1303, // lh x6, -9(x20)
+            0x1800_0393, // addi x7, x0, 384
+        ],
+    ),
+    (
+        "lw over two words",
         &[
             0xff6a_2303, // lw x6, -10(x20)
+            0x0001_83b7, // lui x7, 0x18
         ],
     ),
     (
-        "a store over two words",
+        "ld over two words",
         &[
-            0xfe6a_3ba3, // sd x6, -9(x20)
+            0xff4a_3303, // ld x6, -12(x20)
+            0x0030_0393, // addi x7, x0, 3
+            0x01f3_9393, // slli x7, x7, 31
+            0x0013_8393, // addi x7, x7, 1
         ],
     ),
+    (
+        "sd over two words",
+        &[
+            0xff0a_3383, // ld x7, -16(x20)
+            0xfff3_8393, // addi x7, x7, -1
+            0xfff0_0313, // addi x6, x0, -1
+            0xfe6a_3ba3, // sd x6, -9(x20)
+            0xff0a_3303, // ld x6, -16(x20)
+            0xff8a_3403, // ld x8, -8(x20)
+            0x0083_0333, // add x6, x6, x8
+        ],
+    ),
+];
+
+/// Each traps, to a handler at 0, where no instruction is.
+const TRAPS: [Fragment; 5] = [
     (
         "a load behind RAM",
         &[
@@ -308,9 +331,9 @@ const PASSED: Want<'static> = Want {
 };
 
 const ENDED: Want<'static> = Want {
-    status: Status::Unbuilt,
+    status: Status::OrderEnd,
     out: b"",
-    log: b"end: not built\n",
+    log: b"end: order ended\n",
 };
 
 /// Parts of a guest, one behind another.
@@ -355,7 +378,7 @@ fn fragments_end_as_wanted(rt: HostRuntime) -> Result<(), Fail> {
         let parts = [HEAD.as_slice(), fragment, &PRINT, &PASS];
         end_is(&rt, alloc, &parts, PASSED, what)?;
     }
-    for (what, fragment) in NOT_BUILT {
+    for (what, fragment) in TRAPS {
         let parts = [HEAD.as_slice(), fragment, &PRINT, &PASS];
         end_is(&rt, alloc, &parts, ENDED, what)?;
     }

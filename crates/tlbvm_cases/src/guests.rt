@@ -1,4 +1,6 @@
 // Guests by their instructions' words, as ELF files of one segment.
+ghost use Rattle.std.specs.Prelude.{◌≤◌, length};
+
 use std::alloc::{AllocError, Global};
 
 /// The address of RAM's first byte.
@@ -19,19 +21,39 @@ pub(crate) const HELLO: [u32; 11] = [
     0x0062_a023, // sw x6, 0(x5)
 ];
 
+/// Words that stand in memory from a physical address on.
+pub(crate) type Segment<'a> = (u64, &'a [u32]);
+
 /// An executable whose one segment holds `words` from the address `place` on, where it starts.
-/// Its fields stand as in the ELF-64 Object File Format, version 1.5, figures 2 and 6.
 pub(crate) fn elf(alloc: Global, place: u64, words: &[u32]) -> Result<Vec<u8>, AllocError> {
-    let len = (words.len() as u64).saturating_mul(4);
+    elf_of(alloc, place, &[(place, words)])
+}
+
+/// An executable of these segments, which starts at `entry`.
+/// Its fields stand as in the ELF-64 Object File Format, version 1.5, figures 2 and 6.
+pub(crate) fn elf_of(
+    alloc: Global,
+    entry: u64,
+    segments: &[Segment<'_>],
+) -> Result<Vec<u8>, AllocError>
+    requires { length segments.now ≤ 16 }
+{
     let mut file = b"\x7fELF\x02\x01\x01\0\0\0\0\0\0\0\0\0".to_vec(alloc)?;
     push_halves(&mut file, &[2, 243])?;
     push_words(&mut file, &[1])?;
-    push_longs(&mut file, &[place, 64, 0])?;
+    push_longs(&mut file, &[entry, 64, 0])?;
     push_words(&mut file, &[0])?;
-    push_halves(&mut file, &[64, 56, 1, 0, 0, 0])?;
-    push_words(&mut file, &[1, 7])?;
-    push_longs(&mut file, &[120, place, place, len, len, 4096])?;
-    push_words(&mut file, words)?;
+    push_halves(&mut file, &[64, 56, segments.len() as u16, 0, 0, 0])?;
+    let mut offset = 64 + 56 * segments.len() as u64;
+    for (place, words) in segments {
+        let len = (words.len() as u64).saturating_mul(4);
+        push_words(&mut file, &[1, 7])?;
+        push_longs(&mut file, &[offset, *place, *place, len, len, 1])?;
+        offset = offset.saturating_add(len);
+    }
+    for (_, words) in segments {
+        push_words(&mut file, words)?;
+    }
     Ok(file)
 }
 

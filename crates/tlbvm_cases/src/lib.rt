@@ -9,6 +9,8 @@ mod faults;
 #[cfg(test)]
 mod guests;
 #[cfg(test)]
+mod linked;
+#[cfg(test)]
 mod machine;
 #[cfg(test)]
 mod program;
@@ -16,5 +18,7 @@ mod program;
 mod refusals;
 #[cfg(test)]
 mod stores;
+#[cfg(test)]
+mod supervisor;
 #[cfg(test)]
 mod whole;

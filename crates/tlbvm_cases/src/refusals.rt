@@ -66,7 +66,11 @@ fn images_are_refused(rt: HostRuntime) -> Result<(), Fail> {
             hello_with(alloc, FLAGS, 1)?,
             Status::BadImage(BadImage::Compressed),
         ),
-        ("no header", hello_with(alloc, HEADERS, 0)?, Status::Unbuilt),
+        (
+            "no header",
+            hello_with(alloc, HEADERS, 0)?,
+            Status::BadImage(BadImage::EntryOutside),
+        ),
     ] {
         for (line, order) in [
             (PLAIN, "turn 0 5"),
