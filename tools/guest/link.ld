@@ -1,0 +1,11 @@
+/* The guest stands at RAM's begin and starts there. */
+ENTRY(_start)
+SECTIONS
+{
+    . = 0x80000000;
+    .text : { *(.text.start) *(.text .text.*) }
+    .rodata : { *(.rodata .rodata.* .srodata .srodata.*) }
+    .data : { *(.data .data.* .sdata .sdata.*) }
+    .bss : { *(.bss .bss.* .sbss .sbss.* COMMON) }
+    /DISCARD/ : { *(.eh_frame) *(.note.*) *(.comment) }
+}
