@@ -75,6 +75,72 @@ is_built (Csrrsi d v c) = true
 is_built (Csrrci d v c) = true
 is_built _ = false
 
+-- the instructions that take and leave registers alone, and go on to the next
+abbrev pub is_computed : Instr → Bool
+is_computed (Lui d z) = true
+is_computed (Auipc d z) = true
+is_computed (Addi d r z) = true
+is_computed (Slti d r z) = true
+is_computed (Sltiu d r z) = true
+is_computed (Addiw d r z) = true
+is_computed (Xori d r z) = true
+is_computed (Ori d r z) = true
+is_computed (Andi d r z) = true
+is_computed (Slli d r k) = true
+is_computed (Srli d r k) = true
+is_computed (Srai d r k) = true
+is_computed (Slliw d r k) = true
+is_computed (Srliw d r k) = true
+is_computed (Sraiw d r k) = true
+is_computed (Add d p q) = true
+is_computed (Sll d p q) = true
+is_computed (Slt d p q) = true
+is_computed (Sltu d p q) = true
+is_computed (Srl d p q) = true
+is_computed (Sub d p q) = true
+is_computed (Sra d p q) = true
+is_computed (Addw d p q) = true
+is_computed (Sllw d p q) = true
+is_computed (Srlw d p q) = true
+is_computed (Subw d p q) = true
+is_computed (Sraw d p q) = true
+is_computed (Xor d p q) = true
+is_computed (Or d p q) = true
+is_computed (And d p q) = true
+is_computed (Jal d z) = false
+is_computed (Jalr d r z) = false
+is_computed (Beq p q z) = false
+is_computed (Bne p q z) = false
+is_computed (Blt p q z) = false
+is_computed (Bge p q z) = false
+is_computed (Bltu p q z) = false
+is_computed (Bgeu p q z) = false
+is_computed (Lb d r z) = false
+is_computed (Lh d r z) = false
+is_computed (Lw d r z) = false
+is_computed (Ld d r z) = false
+is_computed (Lbu d r z) = false
+is_computed (Lhu d r z) = false
+is_computed (Lwu d r z) = false
+is_computed (Sb r q z) = false
+is_computed (Sh r q z) = false
+is_computed (Sw r q z) = false
+is_computed (Sd r q z) = false
+is_computed (Fence rest) = false
+is_computed (Fencei rest) = false
+is_computed Ecall = false
+is_computed Ebreak = false
+is_computed Sret = false
+is_computed Wfi = false
+is_computed (Sfencevma p q) = false
+is_computed (Csrrw d r c) = false
+is_computed (Csrrs d r c) = false
+is_computed (Csrrc d r c) = false
+is_computed (Csrrwi d v c) = false
+is_computed (Csrrsi d v c) = false
+is_computed (Csrrci d v c) = false
+is_computed _ = false
+
 -- they need no atomic access, and a load or a store is of 1, 2, 4 or 8 bytes
 abbrev pub is_width : ℕ → Bool
 is_width width = (width == 1) || (width == 2) || (width == 4) || (width == 8)

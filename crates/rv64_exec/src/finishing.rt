@@ -1,8 +1,10 @@
 // What an instruction leaves of its hart, once the machine has answered its need.
-ghost use Rattle.std.specs.Prelude.{◌≡◌, ◌<◌, ◌%◌, IsTrue};
+ghost use Rattle.std.specs.Prelude.{◌≡◌, ◌<◌, ◌%◌, true, false, IsTrue};
 ghost use Rattle.rv64_decode.specs.Encoding.{IsInRange};
-ghost use Rattle.rv64_exec.specs.Built.{is_built, IsDone};
+ghost use Rattle.rv64_exec.specs.Built.{is_built, is_computed, IsDone};
 ghost use Rattle.rv64_exec.specs.Plan.{jal_target, need_of};
+ghost use Rattle.rv64_exec.specs.declared.needs.Need.{Need as TheNeed};
+ghost use Rattle.rv64_exec.specs.declared.needs.Answer.{Answer as TheAnswer};
 ghost use Rattle.rv64_exec.specs.Finish.{after, branched, called, done, jumped, next, retire, set_reg, value_of, Answers};
 
 use crate::alu::{add, addw, extended, sll, sllw, slt, sltu, sra, sraw, srl, srlw, sub, subw};
@@ -96,33 +98,20 @@ fn call(answer: Answer, arch: &mut Arch)
     next(arch);
 }
 
+/// Does an instruction that takes and leaves registers alone and goes on to the next; false for every other, and then
+/// nothing is changed.
 #[inline(always)]
-#[tactic(auto, using(crate::proofs::Kept::jump_aligned, crate::proofs::Kept::taken_aligned), unfolding(crate::specs::Finish::done, crate::specs::Plan::need_of))]
-fn complete(arch: &mut Arch, instr: &Instr, answer: Answer)
-    requires range { IsInRange instr.now }
-    requires built { IsTrue (is_built instr.now) }
-    requires done { IsDone answer }
-    requires form { Answers (need_of arch.old instr.now) answer }
-    ensures { arch.new ≡ done arch.old instr.now answer }
+#[tactic(auto, unfolding(crate::specs::Finish::done, crate::specs::Plan::need_of))]
+pub fn compute(arch: &mut Arch, instr: &Instr) -> bool
+    requires { IsInRange instr.now }
+    ensures which { result ≡ is_computed instr.now }
+    ensures needs { IsTrue result → (is_built instr.now ≡ true) × (need_of arch.old instr.now ≡ TheNeed.Nothing) }
+    ensures done { IsTrue result → arch.new ≡ done arch.old instr.now TheAnswer.Nothing }
+    ensures kept { result ≡ false → arch.new ≡ arch.old }
 {
     match *instr {
         Instr::Lui { rd, imm } => retire(rd, extended(imm), arch),
         Instr::Auipc { rd, imm } => retire(rd, jal_target(arch, imm), arch),
-        Instr::Jal { rd, imm } => jump(rd, jal_target(arch, imm), arch),
-        Instr::Jalr { rd, rs1, imm } => jump(rd, jalr_target(arch, rs1, imm), arch),
-        Instr::Beq { rs1, rs2, imm } => branch(reg(arch, rs1) == reg(arch, rs2), imm, arch),
-        Instr::Bne { rs1, rs2, imm } => branch(reg(arch, rs1) != reg(arch, rs2), imm, arch),
-        Instr::Blt { rs1, rs2, imm } => branch(is_less(arch, rs1, rs2), imm, arch),
-        Instr::Bge { rs1, rs2, imm } => branch(!is_less(arch, rs1, rs2), imm, arch),
-        Instr::Bltu { rs1, rs2, imm } => branch(reg(arch, rs1) < reg(arch, rs2), imm, arch),
-        Instr::Bgeu { rs1, rs2, imm } => branch(reg(arch, rs1) >= reg(arch, rs2), imm, arch),
-        Instr::Lb { rd, .. }
-        | Instr::Lh { rd, .. }
-        | Instr::Lw { rd, .. }
-        | Instr::Ld { rd, .. }
-        | Instr::Lbu { rd, .. }
-        | Instr::Lhu { rd, .. }
-        | Instr::Lwu { rd, .. } => retire(rd, value_of(answer), arch),
         Instr::Addi { rd, rs1, imm } => retire(rd, add(reg(arch, rs1), extended(imm)), arch),
         Instr::Slti { rd, rs1, imm } => retire(rd, slt(reg(arch, rs1), extended(imm)), arch),
         Instr::Sltiu { rd, rs1, imm } => retire(rd, sltu(reg(arch, rs1), extended(imm)), arch),
@@ -163,6 +152,94 @@ fn complete(arch: &mut Arch, instr: &Instr, answer: Answer)
         Instr::Xor { rd, rs1, rs2 } => retire(rd, reg(arch, rs1) ^ reg(arch, rs2), arch),
         Instr::Or { rd, rs1, rs2 } => retire(rd, reg(arch, rs1) | reg(arch, rs2), arch),
         Instr::And { rd, rs1, rs2 } => retire(rd, reg(arch, rs1) & reg(arch, rs2), arch),
+        Instr::Jal { .. }
+        | Instr::Jalr { .. }
+        | Instr::Beq { .. }
+        | Instr::Bne { .. }
+        | Instr::Blt { .. }
+        | Instr::Bge { .. }
+        | Instr::Bltu { .. }
+        | Instr::Bgeu { .. }
+        | Instr::Lb { .. }
+        | Instr::Lh { .. }
+        | Instr::Lw { .. }
+        | Instr::Ld { .. }
+        | Instr::Lbu { .. }
+        | Instr::Lhu { .. }
+        | Instr::Lwu { .. }
+        | Instr::Sb { .. }
+        | Instr::Sh { .. }
+        | Instr::Sw { .. }
+        | Instr::Sd { .. }
+        | Instr::Mul { .. }
+        | Instr::Mulh { .. }
+        | Instr::Mulhsu { .. }
+        | Instr::Mulhu { .. }
+        | Instr::Div { .. }
+        | Instr::Divu { .. }
+        | Instr::Rem { .. }
+        | Instr::Remu { .. }
+        | Instr::Mulw { .. }
+        | Instr::Divw { .. }
+        | Instr::Divuw { .. }
+        | Instr::Remw { .. }
+        | Instr::Remuw { .. }
+        | Instr::Fence { .. }
+        | Instr::Fencei { .. }
+        | Instr::Ecall
+        | Instr::Ebreak
+        | Instr::Sret
+        | Instr::Wfi
+        | Instr::Sfencevma { .. }
+        | Instr::Csrrw { .. }
+        | Instr::Csrrs { .. }
+        | Instr::Csrrc { .. }
+        | Instr::Csrrwi { .. }
+        | Instr::Csrrsi { .. }
+        | Instr::Csrrci { .. }
+        | Instr::Lr { .. }
+        | Instr::Sc { .. }
+        | Instr::Amoswap { .. }
+        | Instr::Amoadd { .. }
+        | Instr::Amoxor { .. }
+        | Instr::Amoand { .. }
+        | Instr::Amoor { .. }
+        | Instr::Amomin { .. }
+        | Instr::Amomax { .. }
+        | Instr::Amominu { .. }
+        | Instr::Amomaxu { .. } => return false,
+    }
+    true
+}
+
+#[inline(always)]
+#[tactic(auto, using(crate::proofs::Kept::jump_aligned, crate::proofs::Kept::taken_aligned), unfolding(crate::specs::Finish::done, crate::specs::Plan::need_of))]
+fn complete(arch: &mut Arch, instr: &Instr, answer: Answer)
+    requires range { IsInRange instr.now }
+    requires built { IsTrue (is_built instr.now) }
+    requires done { IsDone answer }
+    requires form { Answers (need_of arch.old instr.now) answer }
+    ensures { arch.new ≡ done arch.old instr.now answer }
+{
+    if compute(arch, instr) {
+        return;
+    }
+    match *instr {
+        Instr::Jal { rd, imm } => jump(rd, jal_target(arch, imm), arch),
+        Instr::Jalr { rd, rs1, imm } => jump(rd, jalr_target(arch, rs1, imm), arch),
+        Instr::Beq { rs1, rs2, imm } => branch(reg(arch, rs1) == reg(arch, rs2), imm, arch),
+        Instr::Bne { rs1, rs2, imm } => branch(reg(arch, rs1) != reg(arch, rs2), imm, arch),
+        Instr::Blt { rs1, rs2, imm } => branch(is_less(arch, rs1, rs2), imm, arch),
+        Instr::Bge { rs1, rs2, imm } => branch(!is_less(arch, rs1, rs2), imm, arch),
+        Instr::Bltu { rs1, rs2, imm } => branch(reg(arch, rs1) < reg(arch, rs2), imm, arch),
+        Instr::Bgeu { rs1, rs2, imm } => branch(reg(arch, rs1) >= reg(arch, rs2), imm, arch),
+        Instr::Lb { rd, .. }
+        | Instr::Lh { rd, .. }
+        | Instr::Lw { rd, .. }
+        | Instr::Ld { rd, .. }
+        | Instr::Lbu { rd, .. }
+        | Instr::Lhu { rd, .. }
+        | Instr::Lwu { rd, .. } => retire(rd, value_of(answer), arch),
         Instr::Sb { .. }
         | Instr::Sh { .. }
         | Instr::Sw { .. }
@@ -192,8 +269,38 @@ fn complete(arch: &mut Arch, instr: &Instr, answer: Answer)
         Instr::Csrrci { rd, value, csr } => {
             CsrAccess::of_value(CsrOp::Clears, csr, value).finish(rd, answer, arch);
         }
-        // not built
-        Instr::Mul { .. }
+        // computed, or not built
+        Instr::Lui { .. }
+        | Instr::Auipc { .. }
+        | Instr::Addi { .. }
+        | Instr::Slti { .. }
+        | Instr::Sltiu { .. }
+        | Instr::Addiw { .. }
+        | Instr::Xori { .. }
+        | Instr::Ori { .. }
+        | Instr::Andi { .. }
+        | Instr::Slli { .. }
+        | Instr::Srli { .. }
+        | Instr::Srai { .. }
+        | Instr::Slliw { .. }
+        | Instr::Srliw { .. }
+        | Instr::Sraiw { .. }
+        | Instr::Add { .. }
+        | Instr::Sll { .. }
+        | Instr::Slt { .. }
+        | Instr::Sltu { .. }
+        | Instr::Srl { .. }
+        | Instr::Sub { .. }
+        | Instr::Sra { .. }
+        | Instr::Addw { .. }
+        | Instr::Sllw { .. }
+        | Instr::Srlw { .. }
+        | Instr::Subw { .. }
+        | Instr::Sraw { .. }
+        | Instr::Xor { .. }
+        | Instr::Or { .. }
+        | Instr::And { .. }
+        | Instr::Mul { .. }
         | Instr::Mulh { .. }
         | Instr::Mulhsu { .. }
         | Instr::Mulhu { .. }

@@ -9,7 +9,7 @@ mod finishing;
 mod needs;
 mod planning;
 
-pub use finishing::finish;
+pub use finishing::{compute, finish};
 pub use needs::{AmoOp, Answer, FlushOf, IpiOp, Need};
 pub use planning::{is_built, plan};
 pub use rv64_priv::{Arch, Hold, Kind, Regime};
