@@ -7,6 +7,7 @@ pub mod Uniform
 pub mod Reading
 pub mod Reaches
 pub mod Fresh
+pub mod Quick
 pub mod First
 pub mod Served
 pub mod Turns

@@ -19,5 +19,6 @@ pub mod Reading
 pub mod PlainState
 pub mod Devices
 pub mod Translation
+pub mod Given
 pub mod Shows
 pub mod Ran

@@ -20,9 +20,9 @@ use Rattle.elf_load.specs.Contents.{contents_word}
 use Rattle.step_laws.specs.Words.{first_ram_word}
 use Rattle.ref_machine.specs.declared.reason.Reason.{Reason}
 use Rattle.ref_machine.specs.declared.machine.PlainMachine.TheInside.{Inside}
-use Rattle.ref_machine.specs.Memory.{Memory, Write, Entry}
+use Rattle.ref_machine.specs.Memory.{Memory, Write, Entry, One}
 use Rattle.ref_machine.specs.Event.{Outcome}
-use Rattle.ref_machine.specs.Access.{Spot, AtRam, AtDevice, Faults, Reach, spot_of, second_va, reach, code_word}
+use Rattle.ref_machine.specs.Access.{Spot, AtRam, AtDevice, Faults, Reach, InRam, spot_of, second_va, reach, code_word}
 use Rattle.ref_machine.specs.Sbi.{arg}
 use Rattle.ref_machine.specs.Perform.{console_places, prints, loaded, stored, sip_value}
 use Rattle.ref_machine.specs.Change as change
@@ -97,6 +97,13 @@ walk_end p kind va = walk_of p.pages (regime p.arch) kind (ram_reads p.ram) va
 
 abbrev pub reach_of : PlainState → Kind → (va width : ℕ) → Reach
 reach_of p kind va width = reach kind va width (walk_end p kind va) (walk_end p kind (second_va va))
+
+-- an access that leads to this word of RAM, which has all its bytes
+pub record IsBareWord (p : PlainState) (va width index : ℕ) : Type 0 where
+  pub there : index < length p.ram
+  pub fits : va % 8 + width ≤ 8
+  pub load : reach_of p Kind.Load va width ≡ InRam (One (first_ram_word + index) (va % 8) width)
+  pub store : reach_of p Kind.Store va width ≡ InRam (One (first_ram_word + index) (va % 8) width)
 
 -- the answer to a need, and what it changes besides the hart
 pub record Effect : Type 0 where

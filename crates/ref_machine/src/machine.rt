@@ -20,7 +20,7 @@ use crate::reason::Reason;
 use crate::translation::{Fault, fetch_place};
 use elf_load::Image;
 use rv64_decode::{Instr, decode};
-use rv64_exec::{Answer, Arch, Need, finish, is_built, plan};
+use rv64_exec::{Arch, compute, finish, is_built, plan};
 use rv64_priv::{takes_interrupts, trap};
 use serving::Served;
 use std::alloc::Global;
@@ -220,32 +220,13 @@ impl PlainMachine {
             self.take_fault(ILLEGAL_INSTRUCTION, u64::from(word));
             return;
         };
-        if !is_built(&instr) {
+        if compute(&mut self.arch, &instr) {
+            self.counted(None);
+        } else if is_built(&instr) {
+            let need = plan(&self.arch, &instr);
+            self.serve(&instr, &need);
+        } else {
             self.reason = Some(Reason::Unbuilt);
-            return;
-        }
-        match plan(&self.arch, &instr) {
-            // most instructions
-            Need::Nothing => {
-                finish(&mut self.arch, &instr, Answer::Nothing);
-                self.counted(None);
-            }
-            need => self.serve_and_retire(&instr, &need),
-        }
-    }
-
-    /// Does what an instruction needs and finishes it, where that need is built.
-    #[inline(never)]
-    fn serve_and_retire(&mut self, instr: &Instr, need: &Need)
-        requires going { IsNone self.old.reason }
-        requires range { IsInRange instr.now }
-        requires built { IsTrue (exec.is_built instr.now) }
-        requires need { need.now ≡ need_of self.old.arch instr.now }
-        ensures { self.new ≡ plain.after_effect self.old instr.now (plain.effect_of_need self.old need.now) }
-    {
-        match self.serve(need) {
-            Some(served) => self.retire(instr, served),
-            None => self.reason = Some(Reason::Unbuilt),
         }
     }
 
@@ -259,7 +240,6 @@ impl PlainMachine {
     }
 
     /// Finishes the instruction, and counts it.
-    #[inline]
     fn retire(&mut self, instr: &Instr, served: Served)
         requires going { IsNone self.old.reason }
         requires range { IsInRange instr.now }

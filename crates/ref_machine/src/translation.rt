@@ -152,6 +152,14 @@ fn walk_tables(ram: &[u64], pages: u32, regime: &Regime, kind: Kind, va: u64) ->
     walk_from(ram, pages, regime, kind, va, 3, root)
 }
 
+/// Addresses are physical, whatever else the regime is.
+#[inline]
+pub(crate) fn is_untranslated(arch: &Arch) -> bool
+    ensures { result ≡ is_bare (regime arch.now) }
+{
+    arch.satp >> 60 == 0
+}
+
 /// The walk of an address.
 #[tactic(auto, unfolding(rv64_priv::specs::Walk::walk_of))]
 #[inline(always)]
@@ -162,8 +170,7 @@ fn walk(ram: &[u64], pages: u32, arch: &Arch, kind: Kind, va: u64) -> WalkEnd
     ensures sound { IsSound pages kind (end_of result) }
     ensures small { IsSmall (end_of result) }
 {
-    // in bare mode nothing else of the regime matters
-    if arch.satp >> 60 == 0 {
+    if is_untranslated(arch) {
         return reached(pages, kind, 0xcf, va / 4096 * 4096, 0);
     }
     walk_tables(ram, pages, &regime_of(arch), kind, va)

@@ -1,0 +1,59 @@
+-- An access in bare mode within a word of RAM leads there at once.
+use Rattle.std.proofs.Common.{◌≡◌, refl, ℕ, ◌≤◌, ◌<◌, ◌+◌, ◌-◌, ◌*◌, ◌/◌, ◌%◌, ◌^◌, true, false, ◌||◌, length, arith, ap, sym, ◌∙◌}
+use Rattle.std.specs.Prelude.{if◌then◌else◌}
+use Rattle.std.proofs.lemmas.Bool.{le-leb, lt-ltb, le-ltb, ne_eqb}
+use Rattle.rv64_priv.specs.declared.state.Kind.{Kind}
+use Rattle.rv64_priv.specs.declared.state.Regime.{Regime}
+use Rattle.rv64_priv.specs.Bits.{aligned}
+use Rattle.rv64_priv.specs.Csr.{regime}
+use Rattle.rv64_priv.specs.Pte.{is_bare}
+use Rattle.rv64_priv.specs.Walk.{Levels, Leaf, PageFault, AccessFault, walk_of, walk_from, reached, is_canonical, is_ram, is_device, is_reachable}
+use Rattle.step_laws.specs.Words.{first_ram_word, ram_word}
+use Rattle.ref_machine.specs.Memory.{One, Two}
+use Rattle.ref_machine.specs.Access.{AtRam, AtDevice, InRam, spot_of, second_va, one_page, two_pages, reach}
+use Rattle.ref_machine.specs.PlainState.{PlainState, IsBareWord, ram_reads, reach_of, walk_end}
+
+bare_walk : (pages : ℕ) (r : Regime) (kind : Kind) (l : Levels) (va : ℕ) → is_bare r ≡ true → walk_of pages r kind l va ≡ reached pages kind 0xcf (aligned 12 va) 0
+unfolding walk_of
+bare_walk pages r kind l va e =
+    ap (λ b. if b then reached pages kind 0xcf (aligned 12 va) 0 else (if is_canonical va then walk_from pages r kind l va 3 (r.satp % 2 ^ 44 * 4096) else PageFault)) e
+
+-- the page of a place in RAM is there
+page_there : (pages va : ℕ) → 2 ^ 31 ≤ va → va < 2 ^ 31 + 4096 * pages → is_ram pages (aligned 12 va) ≡ true
+page_there pages va low high = rw (le-leb (2 ^ 31) (aligned 12 va) (omega (arith, low)), lt-ltb (aligned 12 va) (2 ^ 31 + 4096 * pages) (omega (arith, high))) refl
+
+reachable : (pages : ℕ) (kind : Kind) (pa : ℕ) → is_ram pages pa ≡ true → is_reachable pages kind pa ≡ true
+reachable pages Kind.Fetch pa e = e
+reachable pages Kind.Load pa e = ap (λ b. b || is_device pa) e
+reachable pages Kind.Store pa e = ap (λ b. b || is_device pa) e
+
+no_device : (va : ℕ) → 2 ^ 31 ≤ va → is_device va ≡ false
+no_device va low = rw (ne_eqb (va / 4096) 0x10000 (λ e. omega (arith, e, low)), ne_eqb (va / 4096) 0x100 (λ e. omega (arith, e, low))) refl
+
+leaf_there : (pages : ℕ) (r : Regime) (kind : Kind) (l : Levels) (va : ℕ) → is_bare r ≡ true → 2 ^ 31 ≤ va → va < 2 ^ 31 + 4096 * pages → walk_of pages r kind l va ≡ Leaf 0xcf (aligned 12 va) 0
+leaf_there pages r kind l va bare low high =
+    bare_walk pages r kind l va bare
+    ∙ ap (λ b. if b then Leaf 0xcf (aligned 12 va) 0 else AccessFault) (reachable pages kind (aligned 12 va) (page_there pages va low high))
+
+quick_reach : (p : PlainState) (kind : Kind) (va width : ℕ) → is_bare (regime p.arch) ≡ true → 2 ^ 31 ≤ va → va < 2 ^ 31 + 4096 * p.pages → va % 8 + width ≤ 8
+    → reach_of p kind va width ≡ InRam (One (ram_word va) (va % 8) width)
+quick_reach p kind va width bare low high fits =
+    let place : aligned 12 va + va % 4096 ≡ va = omega arith in
+    ap (λ w. reach kind va width w (walk_end p kind (second_va va))) (leaf_there p.pages (regime p.arch) kind (ram_reads p.ram) va bare low high)
+    ∙ ap (λ b. if b then two_pages kind va width (spot_of kind va (Leaf 0xcf (aligned 12 va) 0)) (spot_of kind (second_va va) (walk_end p kind (second_va va))) else one_page width (spot_of kind va (Leaf 0xcf (aligned 12 va) 0)))
+    (le-ltb 4096 (va % 4096 + width) (omega (arith, fits)))
+    ∙ ap (λ pa. one_page width (if is_device pa then AtDevice pa else AtRam pa)) place
+    ∙ ap (λ d. one_page width (if d then AtDevice va else AtRam va)) (no_device va low)
+    ∙ ap (λ b. InRam (if b then One (ram_word va) (va % 8) width else Two (ram_word va) (ram_word va + 1) (va % 8) width)) (le-leb (va % 8 + width) 8 fits)
+
+pub bare_word : (p : PlainState) (va width index : ℕ) → is_bare (regime p.arch) ≡ true → 2 ^ 31 ≤ va → length p.ram ≡ 512 * p.pages → index ≡ (va - 2 ^ 31) / 8 → index < length p.ram → va % 8 + width ≤ 8
+    → IsBareWord p va width index
+bare_word p va width index bare low size at below fits =
+    let high : va < 2 ^ 31 + 4096 * p.pages = omega (arith, low, size, at, below) in
+    let word : InRam (One (ram_word va) (va % 8) width) ≡ InRam (One (first_ram_word + index) (va % 8) width) = ap (λ i. InRam (One (first_ram_word + i) (va % 8) width)) (sym at) in
+    record {
+      there = below;
+      fits = fits;
+      load = quick_reach p Kind.Load va width bare low high fits ∙ word;
+      store = quick_reach p Kind.Store va width bare low high fits ∙ word;
+    }
