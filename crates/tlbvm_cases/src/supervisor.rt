@@ -60,6 +60,9 @@ fn machine(alloc: Global, code: &[u32]) -> Result<PlainMachine, Fail>
     Ok(PlainMachine::new(alloc, &image, &file, LAYOUT, 50_000_000)?)
 }
 
+/// Where the guests have their handler that have one.
+const HANDLER: u64 = 0x8000_0040;
+
 /// What hart 0 has come to: pc, the trap's CSRs, how many instructions it counted, and a register.
 #[derive(Clone, Copy)]
 struct Want {
@@ -92,6 +95,14 @@ fn trap(scause: u64, sepc: u64, stval: u64, count: u64) -> Want {
         stval,
         count,
         x10: 0,
+    }
+}
+
+/// The same, to the guest's handler.
+fn caught(scause: u64, sepc: u64, stval: u64, count: u64) -> Want {
+    Want {
+        pc: HANDLER,
+        ..trap(scause, sepc, stval, count)
     }
 }
 

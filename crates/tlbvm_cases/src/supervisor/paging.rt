@@ -1,6 +1,6 @@
 // Translations of a guest in supervisor mode, by page tables of three levels (Privileged Architecture, "Sv39: Page-Based 39-bit
 // Virtual-Memory System"), and accesses over two pages.
-use super::{Want, all_come_to, at, trap};
+use super::{Want, all_come_to, at, caught, trap};
 use std::test::Fail;
 
 /// Loads through a leaf of 2 MiB, maps it anew, fences, and loads again.
@@ -213,10 +213,7 @@ fn accesses_go_over_pages(rt: HostRuntime) -> Result<(), Fail> {
             "a fault of the second page",
             STORE_OVER_PAGES,
             11,
-            Want {
-                pc: 0x8000_0040,
-                ..trap(15, 0x8000_0028, 0x2000, 11)
-            },
+            caught(15, 0x8000_0028, 0x2000, 11),
         ),
         (
             "nothing is stored",

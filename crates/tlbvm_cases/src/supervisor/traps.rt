@@ -1,5 +1,5 @@
 // Traps, returns and interrupts of a guest in supervisor mode, calls, and its user mode.
-use super::{Want, all_come_to, at, machine, trap, turn_times};
+use super::{Want, all_come_to, at, caught, machine, trap, turn_times};
 use ref_machine::Reason;
 use std::test::Fail;
 
@@ -282,50 +282,20 @@ fn user_mode_is_confined(rt: HostRuntime) -> Result<(), Fail> {
                 ..at(0x5044, 13, 0)
             },
         ),
-        (
-            "a call",
-            USER_CALL,
-            14,
-            Want {
-                pc: 0x8000_0040,
-                ..trap(8, 0x5044, 0, 14)
-            },
-        ),
-        (
-            "a CSR",
-            USER_CSR,
-            14,
-            Want {
-                pc: 0x8000_0040,
-                ..trap(2, 0x5044, 0x1400_2573, 14)
-            },
-        ),
-        (
-            "sret",
-            USER_SRET,
-            14,
-            Want {
-                pc: 0x8000_0040,
-                ..trap(2, 0x5044, 0x1020_0073, 14)
-            },
-        ),
+        ("a call", USER_CALL, 14, caught(8, 0x5044, 0, 14)),
+        ("a CSR", USER_CSR, 14, caught(2, 0x5044, 0x1400_2573, 14)),
+        ("sret", USER_SRET, 14, caught(2, 0x5044, 0x1020_0073, 14)),
         (
             "sfence.vma",
             USER_FENCE,
             14,
-            Want {
-                pc: 0x8000_0040,
-                ..trap(2, 0x5044, 0x1200_0073, 14)
-            },
+            caught(2, 0x5044, 0x1200_0073, 14),
         ),
         (
             "a page of the supervisor",
             USER_LOAD,
             15,
-            Want {
-                pc: 0x8000_0040,
-                ..trap(13, 0x5048, 0x1000, 15)
-            },
+            caught(13, 0x5048, 0x1000, 15),
         ),
         (
             "a page of its own",
