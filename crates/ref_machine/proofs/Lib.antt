@@ -3,6 +3,7 @@ pub mod Loading
 pub mod Plainly
 pub mod Grows
 pub mod Rows
+pub mod Computed
 pub mod Uniform
 pub mod Reading
 pub mod Reaches
