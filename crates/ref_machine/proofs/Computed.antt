@@ -7,7 +7,8 @@ use Rattle.rv64_priv.specs.declared.state.Regime.{Regime}
 use Rattle.rv64_priv.specs.Flush.{Full, Pages}
 use Rattle.rv64_priv.specs.Walk.{Levels, Walked, Leaf, PageFault, AccessFault, walk_of}
 use Rattle.ref_machine.specs.Sbi.{Call, Gives, Begins, named, are_there, bits_of, fence_range, sbi_of, invalid_parameter, invalid_address, already_available}
-use Rattle.ref_machine.specs.State.{Setup, State, Hart, Started, hart, initial, reset}
+use Rattle.ref_machine.specs.declared.hart.Mode.TheVariants.{Started}
+use Rattle.ref_machine.specs.State.{Setup, State, Hart, hart, mode_of, initial, reset}
 use Rattle.ref_machine.specs.Change.{state_after, awaited}
 use Rattle.ref_machine.specs.Event.{Start}
 
@@ -136,7 +137,7 @@ abbrev calling : (a0 a1 a2 : ℕ) → Arch
 calling a0 a1 a2 = record (reset 0x80000000) { x = replicate 10 0 ++ a0 ∷ a1 ∷ a2 ∷ 0 ∷ 0 ∷ 0 ∷ 0 ∷ 0x48534D ∷ replicate 14 0 }
 
 abbrev start : (a0 a1 a2 : ℕ) → Call
-start a0 a1 a2 = sbi_of two_harts (initial two_harts) (λ word. 0) (calling a0 a1 a2)
+start a0 a1 a2 = sbi_of two_harts.layout (mode_of (initial two_harts)) (λ word. 0) (calling a0 a1 a2)
 
 started : start 1 0x80000100 7 ≡ Begins 1 0x80000100 7
 unfolding sbi_of

@@ -8,7 +8,7 @@ use Rattle.rv64_priv.specs.Bits.{aligned}
 use Rattle.rv64_priv.specs.Pte.{is_bare, is_malformed, is_leaf, ppn}
 use Rattle.rv64_priv.specs.Walk.{Levels, Walked, Leaf, PageFault, AccessFault, walk_of, walk_from, at_leaf, reached, is_reachable, is_ram, is_canonical, entry_place, leaf_page, is_device}
 use Rattle.ref_machine.specs.Translation.{IsSound, IsSmall}
-use Rattle.ref_machine.specs.PlainState.{ram_reads}
+use Rattle.ref_machine.specs.SharedState.{ram_reads}
 
 -- both find the same at every place in RAM
 abbrev pub Agree : ℕ → Levels → Levels → Type 0

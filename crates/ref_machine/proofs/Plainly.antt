@@ -11,7 +11,9 @@ use Rattle.rv64_exec.specs.Code.{Code, no_code}
 use Rattle.ref_machine.specs.declared.reason.Reason.{Reason}
 use Rattle.ref_machine.specs.Past.{now, HasSince, this, before}
 use Rattle.ref_machine.specs.Event.{Event, Outcome, Starting, Interrupt, Flushes, Start, Stop, actor_of, did_of}
-use Rattle.ref_machine.specs.State.{Setup, State, Hart, Mode, Started, Halted, Pending, hart, nth, memory, all_halted, is_started, initial, new_hart}
+use Rattle.ref_machine.specs.declared.hart.Mode.{Mode}
+use Rattle.ref_machine.specs.declared.hart.Mode.TheVariants.{Started, Halted, Pending}
+use Rattle.ref_machine.specs.State.{Setup, State, Hart, hart, nth, memory, all_halted, is_started, initial, new_hart}
 use Rattle.ref_machine.specs.Access.{AtRam, AtDevice, spot_of, second_va}
 use Rattle.ref_machine.specs.Walks.{Wanted, walked_now, need, access_of, first_now, second_now, no_walk}
 use Rattle.ref_machine.specs.Change.{state_after, part_next, has_part, executed, fetched, first_reason, awaited}

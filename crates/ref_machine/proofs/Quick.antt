@@ -11,7 +11,9 @@ use Rattle.rv64_priv.specs.Walk.{Levels, Leaf, PageFault, AccessFault, walk_of, 
 use Rattle.step_laws.specs.Words.{first_ram_word, ram_word}
 use Rattle.ref_machine.specs.Memory.{One, Two}
 use Rattle.ref_machine.specs.Access.{AtRam, AtDevice, InRam, spot_of, second_va, one_page, two_pages, reach}
-use Rattle.ref_machine.specs.PlainState.{PlainState, IsBareWord, ram_reads, reach_of, walk_end}
+use Rattle.rv64_priv.specs.State.{Arch}
+use Rattle.ref_machine.specs.SharedState.{Shared, ram_reads}
+use Rattle.ref_machine.specs.OneTurn.{IsBareWord, reach_of, walk_end}
 
 bare_walk : (pages : ℕ) (r : Regime) (kind : Kind) (l : Levels) (va : ℕ) → is_bare r ≡ true → walk_of pages r kind l va ≡ reached pages kind 0xcf (aligned 12 va) 0
 unfolding walk_of
@@ -35,25 +37,25 @@ leaf_there pages r kind l va bare low high =
     bare_walk pages r kind l va bare
     ∙ ap (λ b. if b then Leaf 0xcf (aligned 12 va) 0 else AccessFault) (reachable pages kind (aligned 12 va) (page_there pages va low high))
 
-quick_reach : (p : PlainState) (kind : Kind) (va width : ℕ) → is_bare (regime p.arch) ≡ true → 2 ^ 31 ≤ va → va < 2 ^ 31 + 4096 * p.pages → va % 8 + width ≤ 8
-    → reach_of p kind va width ≡ InRam (One (ram_word va) (va % 8) width)
-quick_reach p kind va width bare low high fits =
+quick_reach : (a : Arch) (b : Shared) (kind : Kind) (va width : ℕ) → is_bare (regime a) ≡ true → 2 ^ 31 ≤ va → va < 2 ^ 31 + 4096 * b.layout.pages → va % 8 + width ≤ 8
+    → reach_of a b kind va width ≡ InRam (One (ram_word va) (va % 8) width)
+quick_reach a b kind va width bare low high fits =
     let place : aligned 12 va + va % 4096 ≡ va = omega arith in
-    ap (λ w. reach kind va width w (walk_end p kind (second_va va))) (leaf_there p.pages (regime p.arch) kind (ram_reads p.ram) va bare low high)
-    ∙ ap (λ b. if b then two_pages kind va width (spot_of kind va (Leaf 0xcf (aligned 12 va) 0)) (spot_of kind (second_va va) (walk_end p kind (second_va va))) else one_page width (spot_of kind va (Leaf 0xcf (aligned 12 va) 0)))
+    ap (λ w. reach kind va width w (walk_end a b kind (second_va va))) (leaf_there b.layout.pages (regime a) kind (ram_reads b.ram) va bare low high)
+    ∙ ap (λ c. if c then two_pages kind va width (spot_of kind va (Leaf 0xcf (aligned 12 va) 0)) (spot_of kind (second_va va) (walk_end a b kind (second_va va))) else one_page width (spot_of kind va (Leaf 0xcf (aligned 12 va) 0)))
     (le-ltb 4096 (va % 4096 + width) (omega (arith, fits)))
     ∙ ap (λ pa. one_page width (if is_device pa then AtDevice pa else AtRam pa)) place
     ∙ ap (λ d. one_page width (if d then AtDevice va else AtRam va)) (no_device va low)
-    ∙ ap (λ b. InRam (if b then One (ram_word va) (va % 8) width else Two (ram_word va) (ram_word va + 1) (va % 8) width)) (le-leb (va % 8 + width) 8 fits)
+    ∙ ap (λ c. InRam (if c then One (ram_word va) (va % 8) width else Two (ram_word va) (ram_word va + 1) (va % 8) width)) (le-leb (va % 8 + width) 8 fits)
 
-pub bare_word : (p : PlainState) (va width index : ℕ) → is_bare (regime p.arch) ≡ true → 2 ^ 31 ≤ va → length p.ram ≡ 512 * p.pages → index ≡ (va - 2 ^ 31) / 8 → index < length p.ram → va % 8 + width ≤ 8
-    → IsBareWord p va width index
-bare_word p va width index bare low size at below fits =
-    let high : va < 2 ^ 31 + 4096 * p.pages = omega (arith, low, size, at, below) in
+pub bare_word : (a : Arch) (b : Shared) (va width index : ℕ) → is_bare (regime a) ≡ true → 2 ^ 31 ≤ va → length b.ram ≡ 512 * b.layout.pages → index ≡ (va - 2 ^ 31) / 8 → index < length b.ram → va % 8 + width ≤ 8
+    → IsBareWord a b va width index
+bare_word a b va width index bare low size at below fits =
+    let high : va < 2 ^ 31 + 4096 * b.layout.pages = omega (arith, low, size, at, below) in
     let word : InRam (One (ram_word va) (va % 8) width) ≡ InRam (One (first_ram_word + index) (va % 8) width) = ap (λ i. InRam (One (first_ram_word + i) (va % 8) width)) (sym at) in
     record {
       there = below;
       fits = fits;
-      load = quick_reach p Kind.Load va width bare low high fits ∙ word;
-      store = quick_reach p Kind.Store va width bare low high fits ∙ word;
+      load = quick_reach a b Kind.Load va width bare low high fits ∙ word;
+      store = quick_reach a b Kind.Store va width bare low high fits ∙ word;
     }

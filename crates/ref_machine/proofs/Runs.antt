@@ -49,7 +49,7 @@ pub ran_none : (p : PlainState) → Ran 0 p p
 ran_none p u order run plain k = record { more = []; plain = plain; shown = k; only = λ only. only }
 
 -- one turn more, where the machine goes on
-suc_only : (u : Setup) (order : List ℕ) (run : List Event) (q r : PlainState) (code : Code) → q.reason ≡ None → Turned 0 q r → Shows u q (state_of u run) → IsNext u (state_of u run) 0 code
+suc_only : (u : Setup) (order : List ℕ) (run : List Event) (q r : PlainState) (code : Code) → q.shared.reason ≡ None → Turned 0 q r → Shows u q (state_of u run) → IsNext u (state_of u run) 0 code
     → IsOnly u order run → IsOnly u (0 ∷ order) (plain_turn u (state_of u run) 0 code ++ run)
 suc_only u order run q r code going t k next only other plain = by_last (last_turn u 0 order other plain)
   where
@@ -65,7 +65,7 @@ suc_only u order run q r code going t k next only other plain = by_last (last_tu
         let some : IsSome (state_of u run).reason = subst (λ x. IsSome (state_of u x).reason) same l.ended in
         absurd (none_some (state_of u run).reason (ap (λ (x : State). x.reason) k.state ∙ going) some)
 
-ran_suc : (n : ℕ) (p q r : PlainState) → q.reason ≡ None → Ran n p q → Turned 0 q r → Ran (suc n) p r
+ran_suc : (n : ℕ) (p q r : PlainState) → q.shared.reason ≡ None → Ran n p q → Turned 0 q r → Ran (suc n) p r
 ran_suc n p q r going before_it t u order run plain k =
     let b = before_it u order run plain k in
     let s = state_of u (b.more ++ run) in
@@ -81,7 +81,7 @@ ran_suc n p q r going before_it t u order run plain k =
           (suc_only u (replicate n 0 ++ order) (b.more ++ run) q r code.0 going t b.shown code.1 (b.only only));
     }
 
-pub ran_turn : (n : ℕ) (p q r : PlainState) → q.reason ≡ None → Ran n p q → Turned 0 q r → Ran (n + 1) p r
+pub ran_turn : (n : ℕ) (p q r : PlainState) → q.shared.reason ≡ None → Ran n p q → Turned 0 q r → Ran (n + 1) p r
 ran_turn n p q r going k t = let e : suc n ≡ n + 1 = omega arith in subst (λ m. Ran m p r) e (ran_suc n p q r going k t)
 
 -- behind the first reason no turn is taken
@@ -94,7 +94,7 @@ over_only u order run ended only other plain = by_last (last_turn u 0 order othe
         absurd (none_some (state_of u run).reason (subst (λ x. (state_of u x).reason ≡ None) same l.going) ended)
     by_last (inr l) = only other l.plain
 
-over_suc : (n k : ℕ) (p q : PlainState) → IsSome q.reason → Ran n p q → Ran (k + n) p q
+over_suc : (n k : ℕ) (p q : PlainState) → IsSome q.shared.reason → Ran n p q → Ran (k + n) p q
 over_suc n zero p q ended r = let e : n ≡ 0 + n = omega arith in subst (λ m. Ran m p q) e r
 over_suc n (suc k) p q ended r = let e : suc (k + n) ≡ suc k + n = omega arith in subst (λ m. Ran m p q) e (one (over_suc n k p q ended r))
   where
@@ -109,5 +109,5 @@ over_suc n (suc k) p q ended r = let e : suc (k + n) ≡ suc k + n = omega arith
           only = λ only. over_only u (replicate (k + n) 0 ++ order) (b.more ++ run) some (b.only only);
         }
 
-pub ran_over : (n m : ℕ) (p q : PlainState) → (k : ℕ) → k + n ≡ m → IsSome q.reason → Ran n p q → Ran m p q
+pub ran_over : (n m : ℕ) (p q : PlainState) → (k : ℕ) → k + n ≡ m → IsSome q.shared.reason → Ran n p q → Ran m p q
 ran_over n m p q k same ended r = subst (λ x. Ran x p q) same (over_suc n k p q ended r)

@@ -1,5 +1,5 @@
 -- What the reference machine does for a need, by what the machine on one thread does.
-use Rattle.std.proofs.Common.{◌≡◌, refl, ℕ, ◌<◌, ◌+◌, ◌-◌, ◌*◌, ◌/◌, ◌%◌, ◌^◌, ◌++◌, List, [], ◌∷◌, Some, None, Option, true, false, Bool, ◌&&◌, ◌||◌, length, length-set, arith, rules, ap, sym, ◌∙◌, subst, option_to_list}
+use Rattle.std.proofs.Common.{◌≡◌, refl, ℕ, ◌<◌, ◌+◌, ◌-◌, ◌*◌, ◌/◌, ◌%◌, ◌^◌, ◌++◌, List, [], ◌∷◌, Some, None, Option, true, false, Bool, ◌&&◌, length, length-set, arith, rules, ap, sym, ◌∙◌, subst, option_to_list}
 use Rattle.std.specs.Prelude.{◌==◌, nat_le, nat_lt, if◌then◌else◌, slice_set, take, fold, bit_or, bit_and}
 use Rattle.std.specs.List.{AllByRecursion}
 use Rattle.std.proofs.lemmas.Bool.{leb-true, ltb-true, ne_eqb}
@@ -7,7 +7,6 @@ use Rattle.rv64_priv.specs.State.{Arch}
 use Rattle.rv64_priv.specs.declared.state.Kind.{Kind}
 use Rattle.rv64_priv.specs.Csr.{regime}
 use Rattle.rv64_priv.specs.Walk.{walk_of, is_ram}
-use Rattle.rv64_exec.specs.Code.{Code}
 use Rattle.rv64_exec.specs.Built.{IsBuiltNeed}
 use Rattle.rv64_exec.specs.declared.needs.IpiOp.{IpiOp}
 use Rattle.rv64_exec.specs.declared.needs.Need.{Need}
@@ -15,36 +14,37 @@ use Rattle.rv64_exec.specs.declared.needs.Answer.{Answer}
 use Rattle.step_laws.specs.Words.{first_ram_word, ram_word, ipi_word}
 use Rattle.ref_machine.specs.declared.reason.Reason.{Reason}
 use Rattle.ref_machine.specs.Memory.{Memory, Write, Entry, Span, One, Two, written, write, read, store_entry, part, replaced, write_of}
-use Rattle.ref_machine.specs.Event.{Outcome}
-use Rattle.ref_machine.specs.State.{Setup, State, Command}
+use Rattle.ref_machine.specs.Event.{Outcome, Starting}
+use Rattle.step_laws.specs.declared.words.Layout.{Layout}
+use Rattle.ref_machine.specs.State.{Setup, State, Hart, Command, nth}
 use Rattle.ref_machine.specs.Access.{Reach, InRam, OnDevice, Fault, second_va, reach}
 use Rattle.ref_machine.specs.Device.{DeviceStore, Prints, Ends, Ignored, device_value, device_stored}
-use Rattle.ref_machine.specs.Sbi.{Call, PrintsOne, EndsAll, arg, sbi_of, base_call, ipi_call, rfence_call, hsm_call, reset_call, console_call, no_call}
 use Rattle.ref_machine.specs.Walks.{walked_now, access_of, first_now, second_now, no_walk, levels_of}
-use Rattle.ref_machine.specs.Perform.{loaded, stored, prints, perform, sip_value, ipi_entry, device_loaded, device_done, called}
+use Rattle.ref_machine.specs.Perform.{loaded, stored, prints, perform, sip_value, ipi_entry, device_loaded, device_done}
 use Rattle.ref_machine.specs.Change as change
-use Rattle.ref_machine.specs.Built.{is_call_built, is_need_built}
-use Rattle.ref_machine.specs.PlainState.{PlainState, Effect, effect_of, answers, room, ipi_after, call_effect, effect_of_need, ram_memory, ram_reads, ram_with, walk_end, reach_of}
-use Rattle.ref_machine.specs.Shows.{ShowsRam, shown}
+use Rattle.ref_machine.specs.SharedState.{Shared, ram_memory, ram_reads, ram_with}
+use Rattle.ref_machine.specs.OneTurn.{Effect, effect_of, answers, room, ipi_after, effect_of_need, walk_end, reach_of}
+use Rattle.ref_machine.specs.Shows.{ShowsRam, ShowsMemory}
 use Rattle.ref_machine.proofs.Fresh.{agree_walk, walk_sound}
 use Rattle.ref_machine.proofs.Reaches.{IsWord, IsSpanIn, IsReachIn, reach_in, reach_same}
 
-some : {A : Type 0} {x y : A} → Some x ≡ Some y → x ≡ y
-some e = cc
+abbrev pub outcome : Answer → Option Entry → List ℕ → Option Reason → Option Starting → (stops : Bool) → Outcome
+outcome ans en bs re st stops = record { answer = ans; entry = en; bytes = bs; reason = re; starts = st; stops = stops }
 
--- an outcome that starts and stops no hart
-abbrev pub outcome : Answer → Option Entry → List ℕ → Option Reason → Outcome
-outcome ans en bs re = record { answer = ans; entry = en; bytes = bs; reason = re; starts = None; stops = false }
+-- one that starts and stops no hart
+abbrev pub alone : Answer → Option Entry → List ℕ → Option Reason → Outcome
+alone ans en bs re = outcome ans en bs re None false
 
 -- the effect is what the outcome does, over memory with these entries
-pub record Does (u : Setup) (p : PlainState) (es : List Entry) (did : Outcome) (e : Effect) : Type 0 where
+pub record Does (u : Setup) (b : Shared) (es : List Entry) (did : Outcome) (e : Effect) (st : Option Starting) (stops : Bool) : Type 0 where
   pub entry : Option Entry
   pub bytes : List ℕ
-  pub is_outcome : did ≡ outcome e.answer entry bytes e.reason
-  pub console : change.printed p.console bytes ≡ e.console
-  pub size : length e.ram ≡ length p.ram
-  pub ram : ShowsRam e.ram (written u.image (option_to_list entry ++ es))
-  pub ipi : written u.image (option_to_list entry ++ es) ipi_word ≡ e.ipi
+  pub is_outcome : did ≡ outcome e.answer entry bytes e.reason st stops
+  pub console : change.printed b.console bytes ≡ e.shared.console
+  pub size : length e.shared.ram ≡ length b.ram
+  pub layout : e.shared.layout ≡ b.layout
+  pub limit : e.shared.limit ≡ b.limit
+  pub memory : ShowsMemory e.shared (written u.image (option_to_list entry ++ es))
 
 -- MEMORY THAT RAM SHOWS
 
@@ -104,71 +104,67 @@ ipi_entry_kept : (en : Entry) (m : Memory) (words : ℕ) → IsEntryIn words en 
 ipi_entry_kept [] m words k = refl
 ipi_entry_kept (w ∷ en) m words k = ipi_entry_kept en (write m w) words k.1 ∙ ipi_write m w words k.0
 
--- what RAM shows beside its words: the IPI word
-pub record ShowsMemory (u : Setup) (p : PlainState) (es : List Entry) : Type 0 where
-  pub ram : ShowsRam p.ram (written u.image es)
-  pub ipi : written u.image es ipi_word ≡ p.ipi
-
 abbrev IsStored : (words : ℕ) → Option Entry → Type 0
 IsStored words None = Unit {0}
 IsStored words (Some en) = IsEntryIn words en
 
 -- an outcome that writes RAM alone
-pub ram_does : (u : Setup) (p : PlainState) (es : List Entry) (ans : Answer) (en : Option Entry) (bs : List ℕ) (re : Option Reason) → ShowsMemory u p es → IsStored (length p.ram) en
-    → Does u p es (outcome ans en bs re) (effect_of p (outcome ans en bs re))
-ram_does u p es ans None bs re k i = record { entry = None; bytes = bs; is_outcome = refl; console = refl; size = refl; ram = k.ram; ipi = k.ipi }
-ram_does u p es ans (Some en) bs re k i = record {
+pub ram_does : (u : Setup) (b : Shared) (es : List Entry) (ans : Answer) (en : Option Entry) (bs : List ℕ) (re : Option Reason) → ShowsMemory b (written u.image es) → IsStored (length b.ram) en
+    → Does u b es (alone ans en bs re) (effect_of b (alone ans en bs re)) None false
+ram_does u b es ans None bs re k i = record { entry = None; bytes = bs; is_outcome = refl; console = refl; size = refl; layout = refl; limit = refl; memory = record { ram = k.ram; ipi = k.ipi } }
+ram_does u b es ans (Some en) bs re k i = record {
   entry = Some en;
   bytes = bs;
   is_outcome = refl;
   console = refl;
-  size = size_entry en p.ram;
-  ram = shows_entry en p.ram (written u.image es) k.ram i;
-  ipi = ipi_entry_kept en (written u.image es) (length p.ram) i ∙ k.ipi;
+  size = size_entry en b.ram;
+  layout = refl;
+  limit = refl;
+  memory = record { ram = shows_entry en b.ram (written u.image es) k.ram i; ipi = ipi_entry_kept en (written u.image es) (length b.ram) i ∙ k.ipi };
 }
 
 -- LOADS AND STORES
 
-loaded_does : (u : Setup) (p : PlainState) (es : List Entry) (va w : ℕ) (sign : Bool) (r : Reach) → ShowsMemory u p es → IsReachIn (length p.ram) r
-    → Does u p es (loaded (written u.image es) va w sign r) (effect_of p (loaded (ram_memory p.ram) va w sign r))
-loaded_does u p es va w sign (InRam s) k i =
-    subst (λ v. Does u p es (loaded_of v) (effect_of p (loaded (ram_memory p.ram) va w sign (InRam s)))) (sym (read_same p.ram (written u.image es) s k.ram i))
-    (ram_does u p es (loaded_of (read (ram_memory p.ram) s)).answer None [] None k tt)
+loaded_does : (u : Setup) (b : Shared) (es : List Entry) (va w : ℕ) (sign : Bool) (r : Reach) → ShowsMemory b (written u.image es) → IsReachIn (length b.ram) r
+    → Does u b es (loaded (written u.image es) va w sign r) (effect_of b (loaded (ram_memory b.ram) va w sign r)) None false
+loaded_does u b es va w sign (InRam s) k i =
+    subst (λ v. Does u b es (loaded_of v) (effect_of b (loaded (ram_memory b.ram) va w sign (InRam s))) None false) (sym (read_same b.ram (written u.image es) s k.ram i))
+    (ram_does u b es (loaded_of (read (ram_memory b.ram) s)).answer None [] None k tt)
   where
     loaded_of : ℕ → Outcome
     loaded_of v = device_loaded va w sign (Some v)
-loaded_does u p es va w sign (OnDevice pa) k i = go (device_value pa w)
+loaded_does u b es va w sign (OnDevice pa) k i = go (device_value pa w)
   where
-    go : (v : Option ℕ) → Does u p es (device_loaded va w sign v) (effect_of p (device_loaded va w sign v))
-    go None = ram_does u p es _ None [] None k tt
-    go (Some v) = ram_does u p es _ None [] None k tt
-loaded_does u p es va w sign (Fault cause tval) k i = ram_does u p es (Answer.Fault cause tval) None [] None k tt
+    go : (v : Option ℕ) → Does u b es (device_loaded va w sign v) (effect_of b (device_loaded va w sign v)) None false
+    go None = ram_does u b es _ None [] None k tt
+    go (Some v) = ram_does u b es _ None [] None k tt
+loaded_does u b es va w sign (Fault cause tval) k i = ram_does u b es (Answer.Fault cause tval) None [] None k tt
 
-prints_does : (u : Setup) (p : PlainState) (es : List Entry) (n : ℕ) (bs : List ℕ) (ans : Answer) → ShowsMemory u p es → Does u p es (prints n bs ans) (effect_of p (prints n bs ans))
-prints_does u p es n bs ans k = go (nat_le (length bs) n)
+prints_does : (u : Setup) (b : Shared) (es : List Entry) (n : ℕ) (bs : List ℕ) (ans : Answer) → ShowsMemory b (written u.image es) → Does u b es (prints n bs ans) (effect_of b (prints n bs ans)) None false
+prints_does u b es n bs ans k = go (nat_le (length bs) n)
   where
     short : Outcome
-    short = outcome Answer.Nothing None (take n bs) (Some Reason.OutFull)
+    short = alone Answer.Nothing None (take n bs) (Some Reason.OutFull)
 
-    go : (b : Bool) → Does u p es (if b then outcome ans None bs None else short) (effect_of p (if b then outcome ans None bs None else short))
-    go true = ram_does u p es ans None bs None k tt
-    go false = ram_does u p es Answer.Nothing None (take n bs) (Some Reason.OutFull) k tt
+    go : (c : Bool) → Does u b es (if c then alone ans None bs None else short) (effect_of b (if c then alone ans None bs None else short)) None false
+    go true = ram_does u b es ans None bs None k tt
+    go false = ram_does u b es Answer.Nothing None (take n bs) (Some Reason.OutFull) k tt
 
-device_does : (u : Setup) (p : PlainState) (es : List Entry) (va : ℕ) (d : Option DeviceStore) → ShowsMemory u p es
-    → Does u p es (device_done (room p) va d) (effect_of p (device_done (room p) va d))
-device_does u p es va None k = ram_does u p es _ None [] None k tt
-device_does u p es va (Some (Prints byte)) k = prints_does u p es (room p) (byte ∷ []) Answer.Nothing k
-device_does u p es va (Some (Ends reason)) k = ram_does u p es Answer.Nothing None [] (Some reason) k tt
-device_does u p es va (Some Ignored) k = ram_does u p es Answer.Nothing None [] None k tt
+device_does : (u : Setup) (b : Shared) (es : List Entry) (va : ℕ) (d : Option DeviceStore) → ShowsMemory b (written u.image es)
+    → Does u b es (device_done (room b) va d) (effect_of b (device_done (room b) va d)) None false
+device_does u b es va None k = ram_does u b es _ None [] None k tt
+device_does u b es va (Some (Prints byte)) k = prints_does u b es (room b) (byte ∷ []) Answer.Nothing k
+device_does u b es va (Some (Ends reason)) k = ram_does u b es Answer.Nothing None [] (Some reason) k tt
+device_does u b es va (Some Ignored) k = ram_does u b es Answer.Nothing None [] None k tt
 
-stored_does : (u : Setup) (p : PlainState) (es : List Entry) (va w value : ℕ) (r : Reach) → ShowsMemory u p es → IsReachIn (length p.ram) r
-    → Does u p es (stored (written u.image es) (room p) va w value r) (effect_of p (stored (ram_memory p.ram) (room p) va w value r))
-stored_does u p es va w value (InRam s) k i =
-    subst (λ en. Does u p es (outcome Answer.Nothing (Some en) [] None) (effect_of p (stored (ram_memory p.ram) (room p) va w value (InRam s))))
-    (sym (entry_same p.ram (written u.image es) s value k.ram i))
-    (ram_does u p es Answer.Nothing (Some (store_entry (ram_memory p.ram) s value)) [] None k (entry_in (length p.ram) (ram_memory p.ram) s value i))
-stored_does u p es va w value (OnDevice pa) k i = device_does u p es va (device_stored pa w value) k
-stored_does u p es va w value (Fault cause tval) k i = ram_does u p es (Answer.Fault cause tval) None [] None k tt
+stored_does : (u : Setup) (b : Shared) (es : List Entry) (va w value : ℕ) (r : Reach) → ShowsMemory b (written u.image es) → IsReachIn (length b.ram) r
+    → Does u b es (stored (written u.image es) (room b) va w value r) (effect_of b (stored (ram_memory b.ram) (room b) va w value r)) None false
+stored_does u b es va w value (InRam s) k i =
+    subst (λ en. Does u b es (alone Answer.Nothing (Some en) [] None) (effect_of b (stored (ram_memory b.ram) (room b) va w value (InRam s))) None false)
+    (sym (entry_same b.ram (written u.image es) s value k.ram i))
+    (ram_does u b es Answer.Nothing (Some (store_entry (ram_memory b.ram) s value)) [] None k (entry_in (length b.ram) (ram_memory b.ram) s value i))
+stored_does u b es va w value (OnDevice pa) k i = device_does u b es va (device_stored pa w value) k
+stored_does u b es va w value (Fault cause tval) k i = ram_does u b es (Answer.Fault cause tval) None [] None k tt
 
 -- THE IPI WORD
 
@@ -176,26 +172,32 @@ shows_ipi : (ram : List ℕ) (m : Memory) (value : ℕ) → ShowsRam ram m → S
 shows_ipi ram m value shows i below =
     shows i below ∙ sym (ap (λ b. if b then value else m (first_ram_word + i)) (ne_eqb (first_ram_word + i) ipi_word (λ e. omega (arith, e))))
 
-ipi_does : (u : Setup) (p : PlainState) (es : List Entry) (op : IpiOp) → ShowsMemory u p es
-    → Does u p es (outcome (Answer.Value (sip_value p.ipi 0)) (ipi_entry op p.ipi 0) [] None) (record (answers p (Answer.Value (sip_value p.ipi 0))) { ipi = ipi_after op p.ipi 0 })
-ipi_does u p es IpiOp.Read k = record { entry = None; bytes = []; is_outcome = refl; console = refl; size = refl; ram = k.ram; ipi = k.ipi }
-ipi_does u p es IpiOp.Set k = record {
-  entry = ipi_entry IpiOp.Set p.ipi 0;
+-- memory behind a write of it
+pub shows_written : (b : Shared) (m : Memory) (value : ℕ) → ShowsMemory b m → ShowsMemory (record b { ipi = value }) (write m (write_of ipi_word value))
+shows_written b m value k = record { ram = shows_ipi b.ram m value k.ram; ipi = refl }
+
+ipi_does : (u : Setup) (h : ℕ) (b : Shared) (es : List Entry) (op : IpiOp) → ShowsMemory b (written u.image es)
+    → Does u b es (alone (Answer.Value (sip_value b.ipi h)) (ipi_entry op b.ipi h) [] None) (answers (record b { ipi = ipi_after op b.ipi h }) (Answer.Value (sip_value b.ipi h))) None false
+ipi_does u h b es IpiOp.Read k = record { entry = None; bytes = []; is_outcome = refl; console = refl; size = refl; layout = refl; limit = refl; memory = record { ram = k.ram; ipi = k.ipi } }
+ipi_does u h b es IpiOp.Set k = record {
+  entry = ipi_entry IpiOp.Set b.ipi h;
   bytes = [];
   is_outcome = refl;
   console = refl;
   size = refl;
-  ram = shows_ipi p.ram (written u.image es) (bit_or p.ipi (2 ^ 0)) k.ram;
-  ipi = refl;
+  layout = refl;
+  limit = refl;
+  memory = shows_written b (written u.image es) (bit_or b.ipi (2 ^ h)) k;
 }
-ipi_does u p es IpiOp.Clear k = record {
-  entry = ipi_entry IpiOp.Clear p.ipi 0;
+ipi_does u h b es IpiOp.Clear k = record {
+  entry = ipi_entry IpiOp.Clear b.ipi h;
   bytes = [];
   is_outcome = refl;
   console = refl;
   size = refl;
-  ram = shows_ipi p.ram (written u.image es) (p.ipi - bit_and p.ipi (2 ^ 0)) k.ram;
-  ipi = refl;
+  layout = refl;
+  limit = refl;
+  memory = shows_written b (written u.image es) (b.ipi - bit_and b.ipi (2 ^ h)) k;
 }
 
 -- NEEDS
@@ -209,11 +211,11 @@ levels_same m level pa = go (level == 2) (level == 1)
     go false true = refl
     go false false = refl
 
-and_left : (p q : Bool) → p && q ≡ true → p ≡ true
+pub and_left : (p q : Bool) → p && q ≡ true → p ≡ true
 and_left true q h = refl
 and_left false q h = h
 
-and_right : (p q : Bool) → p && q ≡ true → q ≡ true
+pub and_right : (p q : Bool) → p && q ≡ true → q ≡ true
 and_right true q h = h
 and_right false q h = cc
 
@@ -224,104 +226,56 @@ reads_same pages ram m size shows level place e =
     let high = ltb-true place (2 ^ 31 + 4096 * pages) (and_right (nat_le (2 ^ 31) place) (nat_lt place (2 ^ 31 + 4096 * pages)) e) in
     levels_same m level place ∙ sym (shows ((place - 2 ^ 31) / 8) (omega (arith, low, high, size)))
 
-pub walk_now : (u : Setup) (p : PlainState) (held : Option Code) (es : List Entry) (sc : List Command) (kind : Kind) (va : ℕ) → p.pages ≡ u.layout.pages → length p.ram ≡ 512 * u.layout.pages
-    → ShowsRam p.ram (written u.image es) → walked_now u (shown p held es sc) 0 kind va ≡ walk_end p kind va
-walk_now u p held es sc kind va pages size shows =
+-- a state with these harts, and what is shown in it of one
+abbrev pub state_with : List Hart → Shared → List Entry → List Command → State
+state_with hs b es sc = record { entries = es; harts = hs; output = b.console; reason = b.reason; script = sc }
+
+pub record ShowsHart (u : Setup) (hs : List Hart) (h : ℕ) (a : Arch) (b : Shared) (es : List Entry) : Type 0 where
+  pub arch : (nth hs h).arch ≡ a
+  pub layout : b.layout ≡ u.layout
+  pub size : length b.ram ≡ 512 * u.layout.pages
+  pub memory : ShowsMemory b (written u.image es)
+
+pub walk_now : (u : Setup) (hs : List Hart) (h : ℕ) (a : Arch) (b : Shared) (es : List Entry) (sc : List Command) (kind : Kind) (va : ℕ) → ShowsHart u hs h a b es
+    → walked_now u (state_with hs b es sc) h kind va ≡ walk_end a b kind va
+walk_now u hs h a b es sc kind va k =
     let m = written u.image es in
-    agree_walk u.layout.pages (regime p.arch) kind va (levels_of m m m) (ram_reads p.ram) (reads_same u.layout.pages p.ram m size shows)
-    ∙ ap (λ n. walk_of n (regime p.arch) kind (ram_reads p.ram) va) (sym pages)
+    ap (λ x. walk_of u.layout.pages (regime x) kind (levels_of m m m) va) k.arch
+    ∙ agree_walk u.layout.pages (regime a) kind va (levels_of m m m) (ram_reads b.ram) (reads_same u.layout.pages b.ram m k.size k.memory.ram)
+    ∙ ap (λ (l : Layout). walk_of l.pages (regime a) kind (ram_reads b.ram) va) (sym k.layout)
 
-reach_now : (u : Setup) (p : PlainState) (held : Option Code) (es : List Entry) (sc : List Command) (kind : Kind) (va w : ℕ) → p.pages ≡ u.layout.pages → length p.ram ≡ 512 * u.layout.pages
-    → ShowsRam p.ram (written u.image es)
-    → reach kind va w (first_now u (shown p held es sc) 0 (Some (record { kind = kind; va = va; width = w }))) (second_now u (shown p held es sc) 0 (Some (record { kind = kind; va = va; width = w })))
-    ≡ reach_of p kind va w
-reach_now u p held es sc kind va w pages size shows =
-    let s = shown p held es sc in
-    reach_same kind va w (walked_now u s 0 kind va) (walked_now u s 0 kind (second_va va)) (walk_end p kind (second_va va)) no_walk (walk_now u p held es sc kind (second_va va) pages size shows)
-    ∙ ap (λ f. reach kind va w f (walk_end p kind (second_va va))) (walk_now u p held es sc kind va pages size shows)
+reach_now : (u : Setup) (hs : List Hart) (h : ℕ) (a : Arch) (b : Shared) (es : List Entry) (sc : List Command) (kind : Kind) (va w : ℕ) → ShowsHart u hs h a b es
+    → reach kind va w (first_now u (state_with hs b es sc) h (Some (record { kind = kind; va = va; width = w }))) (second_now u (state_with hs b es sc) h (Some (record { kind = kind; va = va; width = w })))
+    ≡ reach_of a b kind va w
+reach_now u hs h a b es sc kind va w k =
+    let s = state_with hs b es sc in
+    reach_same kind va w (walked_now u s h kind va) (walked_now u s h kind (second_va va)) (walk_end a b kind (second_va va)) no_walk (walk_now u hs h a b es sc kind (second_va va) k)
+    ∙ ap (λ f. reach kind va w f (walk_end a b kind (second_va va))) (walk_now u hs h a b es sc kind va k)
 
-reach_there : (p : PlainState) (kind : Kind) (va w : ℕ) → length p.ram ≡ 512 * p.pages → IsReachIn (length p.ram) (reach_of p kind va w)
-reach_there p kind va w size =
-    subst (λ n. IsReachIn n (reach_of p kind va w)) (sym size)
-    (reach_in kind p.pages va w (walk_end p kind va) (walk_end p kind (second_va va)) (walk_sound p.pages (regime p.arch) kind (ram_reads p.ram) va)
-    (walk_sound p.pages (regime p.arch) kind (ram_reads p.ram) (second_va va)))
+reach_there : (u : Setup) (hs : List Hart) (h : ℕ) (a : Arch) (b : Shared) (es : List Entry) (kind : Kind) (va w : ℕ) → ShowsHart u hs h a b es → IsReachIn (length b.ram) (reach_of a b kind va w)
+reach_there u hs h a b es kind va w k =
+    let size : length b.ram ≡ 512 * b.layout.pages = k.size ∙ ap (λ (l : Layout). 512 * l.pages) (sym k.layout) in
+    subst (λ n. IsReachIn n (reach_of a b kind va w)) (sym size)
+    (reach_in kind b.layout.pages va w (walk_end a b kind va) (walk_end a b kind (second_va va)) (walk_sound b.layout.pages (regime a) kind (ram_reads b.ram) va)
+    (walk_sound b.layout.pages (regime a) kind (ram_reads b.ram) (second_va va)))
 
--- the calls of the SBI that aren't built
-abbrev other_call : Setup → State → Memory → Arch → Call
-other_call u s m a =
-    let eid = arg a 7 in
-    let fid = arg a 6 in
-    if eid == 0x10 then base_call a fid else
-    (if eid == 0x735049 then ipi_call u.layout.harts a fid else
-    (if eid == 0x52464E43 then rfence_call u.layout.harts a fid else
-    (if eid == 0x48534D then hsm_call u s a fid else
-    (if (eid == 0x53525354) && (fid == 0) then reset_call (arg a 0 % 2 ^ 32) (arg a 1 % 2 ^ 32) else
-    (if eid == 0x4442434E then console_call u.layout.pages m a fid else no_call eid)))))
-
--- an SBI call that is built
-call_does : (u : Setup) (p : PlainState) (es : List Entry) (s : State) (m : Memory) (e : Effect) → ShowsMemory u p es → call_effect p ≡ Some e
-    → Does u p es (called m (room p) (sbi_of u s m p.arch)) e
-unfolding sbi_of
-call_does u p es s m e k is = go (arg p.arch 7 == 0x01) (arg p.arch 7 == 0x08) is
-  where
-    byte : List ℕ
-    byte = arg p.arch 0 % 256 ∷ []
-
-    go : (a b : Bool)
-        → (if a then Some (effect_of p (prints (room p) byte (Answer.Single 0))) else (if b then Some (record (answers p Answer.Nothing) { reason = Some Reason.Pass }) else None)) ≡ Some e
-        → Does u p es (called m (room p) (if a then PrintsOne (arg p.arch 0 % 256) else (if b then EndsAll Reason.Pass else other_call u s m p.arch))) e
-    go true b i = subst (λ x. Does u p es (prints (room p) byte (Answer.Single 0)) x) (some i) (prints_does u p es (room p) byte (Answer.Single 0) k)
-    go false true i = subst (λ x. Does u p es (outcome Answer.Nothing None [] (Some Reason.Pass)) x) (some i) (ram_does u p es Answer.Nothing None [] (Some Reason.Pass) k tt)
-    go false false i = cc
-
--- what a need does
-pub does_need : (u : Setup) (p : PlainState) (held : Option Code) (es : List Entry) (sc : List Command) (n : Need) (e : Effect) → p.pages ≡ u.layout.pages → length p.ram ≡ 512 * u.layout.pages
-    → ShowsMemory u p es → IsBuiltNeed n → effect_of_need p n ≡ Some e
-    → Does u p es (perform u (shown p held es sc) 0 (first_now u (shown p held es sc) 0 (access_of n)) (second_now u (shown p held es sc) 0 (access_of n)) n) e
+-- what a need does that isn't a call
+pub need_does : (u : Setup) (hs : List Hart) (h : ℕ) (a : Arch) (b : Shared) (es : List Entry) (sc : List Command) (n : Need) → ShowsHart u hs h a b es → IsBuiltNeed n → (n ≡ Need.Sbi → ⊥)
+    → Does u b es (perform u (state_with hs b es sc) h (first_now u (state_with hs b es sc) h (access_of n)) (second_now u (state_with hs b es sc) h (access_of n)) n) (effect_of_need h a b n) None false
 unfolding perform
-does_need u p held es sc Need.Nothing e pages size k built is = subst (λ x. Does u p es (outcome Answer.Nothing None [] None) x) (some is) (ram_does u p es Answer.Nothing None [] None k tt)
-does_need u p held es sc (Need.Flush what) e pages size k built is = subst (λ x. Does u p es (outcome Answer.Nothing None [] None) x) (some is) (ram_does u p es Answer.Nothing None [] None k tt)
-does_need u p held es sc (Need.Trap cause tval) e pages size k built is =
-    subst (λ x. Does u p es (outcome (Answer.Fault cause tval) None [] None) x) (some is) (ram_does u p es (Answer.Fault cause tval) None [] None k tt)
-does_need u p held es sc (Need.Load va w sign) e pages size k built is =
-    subst (λ x. Does u p es (loaded (written u.image es) va w sign x) e) (sym (reach_now u p held es sc Kind.Load va w pages size k.ram))
-    (subst (λ x. Does u p es (loaded (written u.image es) va w sign (reach_of p Kind.Load va w)) x) (some is)
-    (loaded_does u p es va w sign (reach_of p Kind.Load va w) k (reach_there p Kind.Load va w (size ∙ ap (λ n. 512 * n) (sym pages)))))
-does_need u p held es sc (Need.Store va w value) e pages size k built is =
-    subst (λ x. Does u p es (stored (written u.image es) (room p) va w value x) e) (sym (reach_now u p held es sc Kind.Store va w pages size k.ram))
-    (subst (λ x. Does u p es (stored (written u.image es) (room p) va w value (reach_of p Kind.Store va w)) x) (some is)
-    (stored_does u p es va w value (reach_of p Kind.Store va w) k (reach_there p Kind.Store va w (size ∙ ap (λ n. 512 * n) (sym pages)))))
-does_need u p held es sc (Need.Ipi op) e pages size k built is =
-    subst (λ x. Does u p es (outcome (Answer.Value (sip_value (written u.image es ipi_word) 0)) (ipi_entry op (written u.image es ipi_word) 0) [] None) x) (some is)
-    (subst (λ n. Does u p es (outcome (Answer.Value (sip_value n 0)) (ipi_entry op n 0) [] None) (record (answers p (Answer.Value (sip_value p.ipi 0))) { ipi = ipi_after op p.ipi 0 })) (sym k.ipi)
-    (ipi_does u p es op k))
-does_need u p held es sc Need.Sbi e pages size k built is = call_does u p es (shown p held es sc) (written u.image es) e k is
-does_need u p held es sc (Need.Amo va op wide value) e pages size k built is = absurd built
-does_need u p held es sc (Need.Lr va wide) e pages size k built is = absurd built
-does_need u p held es sc (Need.Sc va wide value) e pages size k built is = absurd built
-
--- whether a need is built is whether it has an effect
-abbrev pub has_effect : Option Effect → Bool
-has_effect None = false
-has_effect (Some e) = true
-
-call_built : (p : PlainState) → has_effect (call_effect p) ≡ is_call_built p.arch
-call_built p = go (arg p.arch 7 == 0x01) (arg p.arch 7 == 0x08)
-  where
-    go : (a b : Bool)
-        → has_effect (if a then Some (effect_of p (prints (room p) (arg p.arch 0 % 256 ∷ []) (Answer.Single 0))) else (if b then Some (record (answers p Answer.Nothing) { reason = Some Reason.Pass }) else None)) ≡ a || b
-    go true b = refl
-    go false true = refl
-    go false false = refl
-
-pub need_built : (p : PlainState) (n : Need) → IsBuiltNeed n → has_effect (effect_of_need p n) ≡ is_need_built p.arch n
-need_built p Need.Nothing built = refl
-need_built p (Need.Flush what) built = refl
-need_built p (Need.Trap cause tval) built = refl
-need_built p (Need.Load va w sign) built = refl
-need_built p (Need.Store va w value) built = refl
-need_built p (Need.Ipi op) built = refl
-need_built p Need.Sbi built = call_built p
-need_built p (Need.Amo va op wide value) built = absurd built
-need_built p (Need.Lr va wide) built = absurd built
-need_built p (Need.Sc va wide value) built = absurd built
+need_does u hs h a b es sc Need.Nothing k built other = ram_does u b es Answer.Nothing None [] None k.memory tt
+need_does u hs h a b es sc (Need.Flush what) k built other = ram_does u b es Answer.Nothing None [] None k.memory tt
+need_does u hs h a b es sc (Need.Trap cause tval) k built other = ram_does u b es (Answer.Fault cause tval) None [] None k.memory tt
+need_does u hs h a b es sc (Need.Load va w sign) k built other =
+    subst (λ x. Does u b es (loaded (written u.image es) va w sign x) (effect_of_need h a b (Need.Load va w sign)) None false) (sym (reach_now u hs h a b es sc Kind.Load va w k))
+    (loaded_does u b es va w sign (reach_of a b Kind.Load va w) k.memory (reach_there u hs h a b es Kind.Load va w k))
+need_does u hs h a b es sc (Need.Store va w value) k built other =
+    subst (λ x. Does u b es (stored (written u.image es) (room b) va w value x) (effect_of_need h a b (Need.Store va w value)) None false) (sym (reach_now u hs h a b es sc Kind.Store va w k))
+    (stored_does u b es va w value (reach_of a b Kind.Store va w) k.memory (reach_there u hs h a b es Kind.Store va w k))
+need_does u hs h a b es sc (Need.Ipi op) k built other =
+    subst (λ n. Does u b es (alone (Answer.Value (sip_value n h)) (ipi_entry op n h) [] None) (effect_of_need h a b (Need.Ipi op)) None false) (sym k.memory.ipi)
+    (ipi_does u h b es op k.memory)
+need_does u hs h a b es sc Need.Sbi k built other = absurd (other refl)
+need_does u hs h a b es sc (Need.Amo va op wide value) k built other = absurd built
+need_does u hs h a b es sc (Need.Lr va wide) k built other = absurd built
+need_does u hs h a b es sc (Need.Sc va wide value) k built other = absurd built

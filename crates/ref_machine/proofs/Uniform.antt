@@ -10,7 +10,8 @@ use Rattle.rv64_priv.specs.Walk.{Walked, Leaf, PageFault, AccessFault, walk_of}
 use Rattle.rv64_priv.specs.Flush.{covers}
 use Rattle.ref_machine.specs.Past.{Since, later, HasSince, before}
 use Rattle.ref_machine.specs.Event.{Event, Starting, Flushes, actor_of, did_of}
-use Rattle.ref_machine.specs.State.{Setup, State, Hart, Halted, new_hart, initial, nth, hart}
+use Rattle.ref_machine.specs.declared.hart.Mode.TheVariants.{Halted}
+use Rattle.ref_machine.specs.State.{Setup, State, Hart, new_hart, initial, nth, hart}
 use Rattle.ref_machine.specs.Change.{state_after, part_next, has_part, awaited, with_start}
 use Rattle.ref_machine.specs.Run.{state_of, memory_at, is_of, covers_leaf, renews, started_by, hart_next}
 use Rattle.ref_machine.specs.Walks.{levels_of}

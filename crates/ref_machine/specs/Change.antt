@@ -8,7 +8,8 @@ use Rattle.rv64_exec.specs.declared.needs.Answer.{Answer}
 use Rattle.rv64_exec.specs.Finish.{effect_of, set_reg}
 use Rattle.ref_machine.specs.declared.reason.Reason.{Reason}
 use Rattle.ref_machine.specs.Event.{Event, Outcome, Starting, Fetch, Exec, GiveUp, Interrupt, Start, Await, SnapEnd, Dump, actor_of, did_of, entry_of}
-use Rattle.ref_machine.specs.State.{State, Hart, Started, Halted, Pending, nth, reset}
+use Rattle.ref_machine.specs.declared.hart.Mode.TheVariants.{Started, Halted, Pending}
+use Rattle.ref_machine.specs.State.{State, Hart, nth, reset}
 use Rattle.ref_machine.specs.Access.{Spot, Faults, spot_of}
 
 -- one more instruction is counted

@@ -10,7 +10,8 @@ use Rattle.rv64_exec.specs.declared.needs.FlushOf.{FlushOf}
 use Rattle.ref_machine.specs.declared.reason.Reason.{Reason}
 use Rattle.ref_machine.specs.Past.{Since, HasSince}
 use Rattle.ref_machine.specs.Event.{Event, Outcome, Fetch, Exec, GiveUp, Interrupt, Flushes, Start, Stop, Await, SnapBegin, SnapEnd, Dump, monitor}
-use Rattle.ref_machine.specs.State.{Setup, State, Started, Pending, Command, AwaitBytes, Snapshot, DumpBytes, StopAll, hart, memory, all_halted}
+use Rattle.ref_machine.specs.declared.hart.Mode.TheVariants.{Started, Pending}
+use Rattle.ref_machine.specs.State.{Setup, State, Command, AwaitBytes, Snapshot, DumpBytes, StopAll, hart, mode_of, memory, all_halted}
 use Rattle.ref_machine.specs.Run.{state_of, memory_at, is_of, fetches, starts, flushes, renews, last_of, passes, leaves, is_snap_begin, is_due}
 use Rattle.ref_machine.specs.Access.{crosses_page, second_va, spot_of, is_at_ram}
 use Rattle.ref_machine.specs.Sbi.{Call, Fences, sbi_of, bytes_from}
@@ -55,7 +56,7 @@ flushing_of_call _ = None
 
 unfoldable pub flushing : Setup → State → (h : ℕ) → Need → Option Flushing
 flushing u s h (Need.Flush what) = Some (record { harts = h ∷ []; what = flush_named what })
-flushing u s h Need.Sbi = flushing_of_call (sbi_of u s (memory u s) (hart s h).arch)
+flushing u s h Need.Sbi = flushing_of_call (sbi_of u.layout (mode_of s) (memory u s) (hart s h).arch)
 flushing u s h _ = None
 
 -- each of them has flushed that since the hart's last Fetch

@@ -7,6 +7,7 @@ use Rattle.ref_machine.specs.declared.reason.Reason.{Reason}
 use Rattle.ref_machine.specs.Memory.{written}
 use Rattle.ref_machine.specs.Event.{Event}
 use Rattle.ref_machine.specs.State.{Setup, initial, hart, memory}
+use Rattle.ref_machine.specs.Perform.{console_places}
 use Rattle.ref_machine.specs.Run.{state_of, stored, is_of, part_of}
 use Rattle.ref_machine.specs.Lawful.{IsRun, IsAllowed}
 use Rattle.ref_machine.specs.Plain.{IsPlainRun}
@@ -22,6 +23,10 @@ CountsGrow = (u : Setup) (more run : List Event) (h : ℕ) → (hart (state_of u
 -- what was printed stays in front of what is printed
 abbrev pub OutputGrows : Type 0
 OutputGrows = (u : Setup) (more run : List Event) → (bytes : List ℕ) × ((state_of u (more ++ run)).output ≡ (state_of u run).output ++ bytes)
+
+-- a run prints at most as much as the console takes
+abbrev pub OutputFits : Type 0
+OutputFits = (u : Setup) (run : List Event) → IsRun u run → length (state_of u run).output ≤ console_places
 
 -- the first reason stays
 abbrev pub ReasonStays : Type 0

@@ -16,9 +16,14 @@ pub mod Plain
 pub mod Image
 pub mod Laws
 pub mod Reading
+pub mod Slots
+pub mod Calls
+pub mod SharedState
 pub mod PlainState
+pub mod OneTurn
 pub mod Devices
 pub mod Translation
 pub mod Given
 pub mod Shows
 pub mod Ran
+pub mod Decoded

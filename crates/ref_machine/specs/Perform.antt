@@ -16,7 +16,7 @@ use Rattle.step_laws.specs.Words.{ipi_word, first_ram_word}
 use Rattle.ref_machine.specs.declared.reason.Reason.{Reason}
 use Rattle.ref_machine.specs.Event.{Outcome, only}
 use Rattle.ref_machine.specs.Memory.{Memory, Entry, Span, read, store_entry, first_word, first_offset}
-use Rattle.ref_machine.specs.State.{Setup, State, hart, memory}
+use Rattle.ref_machine.specs.State.{Setup, State, hart, mode_of, memory}
 use Rattle.ref_machine.specs.Access.{Reach, InRam, OnDevice, Fault, reach}
 use Rattle.ref_machine.specs.Device.{DeviceStore, Ends, Ignored, device_value, device_stored}
 use Rattle.ref_machine.specs.Sbi.{Call, Gives, GivesOne, PrintsOne, Sends, Fences, Begins, Leaves, EndsAll, sbi_of}
@@ -156,6 +156,6 @@ perform u s h first second (Need.Sc va wide value) =
     if is_misaligned wide va then faults 6 va else conditionally (memory u s) (hart s h).arch va wide value (reach Kind.Store va (width_of wide) first second)
 perform u s h first second (Need.Ipi op) =
     record (only (Answer.Value (sip_value (memory u s ipi_word) h))) { entry = ipi_entry op (memory u s ipi_word) h }
-perform u s h first second Need.Sbi = called (memory u s) (room s) (sbi_of u s (memory u s) (hart s h).arch)
+perform u s h first second Need.Sbi = called (memory u s) (room s) (sbi_of u.layout (mode_of s) (memory u s) (hart s h).arch)
 perform u s h first second (Need.Trap cause tval) = faults cause tval
 perform u s h first second _ = only Answer.Nothing

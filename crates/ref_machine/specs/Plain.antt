@@ -4,7 +4,9 @@ use Rattle.rv64_priv.specs.Flush.{Full}
 use Rattle.rv64_exec.specs.Code.{Code}
 use Rattle.ref_machine.specs.declared.reason.Reason.{Reason}
 use Rattle.ref_machine.specs.Event.{Event, Interrupt, Flushes, Start, Stop}
-use Rattle.ref_machine.specs.State.{Setup, State, Mode, Started, Halted, Pending, hart, memory, all_halted}
+use Rattle.ref_machine.specs.declared.hart.Mode.{Mode}
+use Rattle.ref_machine.specs.declared.hart.Mode.TheVariants.{Started, Halted, Pending}
+use Rattle.ref_machine.specs.State.{Setup, State, hart, memory, all_halted}
 use Rattle.ref_machine.specs.Walks.{need}
 use Rattle.ref_machine.specs.Change.{state_after}
 use Rattle.ref_machine.specs.Run.{state_of, counts, leaves, is_leaf_end}

@@ -6,10 +6,13 @@ use Rattle.rv64_priv.specs.Flush.{Flush, Full, Pages}
 use Rattle.rv64_priv.specs.Walk.{is_ram, ram_base}
 use Rattle.rv64_priv.specs.Bits.{is_set}
 use Rattle.rv64_exec.specs.Plan.{reg}
+use Rattle.step_laws.specs.declared.words.Layout.{Layout}
 use Rattle.step_laws.specs.Words.{ram_word}
 use Rattle.ref_machine.specs.declared.reason.Reason.{Reason}
 use Rattle.ref_machine.specs.Memory.{Memory}
-use Rattle.ref_machine.specs.State.{Setup, State, Mode, Started, Halted, Pending, hart, is_halted}
+use Rattle.ref_machine.specs.declared.hart.Mode.{Mode}
+use Rattle.ref_machine.specs.declared.hart.Mode.TheVariants.{Started, Halted, Pending}
+use Rattle.ref_machine.specs.State.{is_halted}
 
 -- what a call does
 pub data Call : Type 0 where
@@ -116,24 +119,27 @@ rfence_call harts a fid =
     if fid == 0 then with_named harts a (λ hs. succeeds 0) else
     if nat_le fid 2 then with_named harts a (λ hs. fence_over hs (fence_range (arg a 2) (arg a 3))) else fails not_supported
 
--- hart states
+-- hart states, by the harts' numbers
+abbrev pub Modes : Type 0
+Modes = ℕ → Mode
+
 abbrev pub state_number : Mode → ℕ
 state_number Started = 0
 state_number Halted = 1
 state_number Pending = 2
 
-abbrev pub start_call : Setup → State → Arch → Call
-start_call u s a =
-    if not (nat_lt (arg a 0) u.layout.harts) then fails invalid_parameter else
-    if not (arg a 1 % 4 == 0) || not (is_ram u.layout.pages (arg a 1)) then fails invalid_address else
-    if not (is_halted (hart s (arg a 0)).mode) then fails already_available else
+abbrev pub start_call : Layout → Modes → Arch → Call
+start_call l modes a =
+    if not (nat_lt (arg a 0) l.harts) then fails invalid_parameter else
+    if not (arg a 1 % 4 == 0) || not (is_ram l.pages (arg a 1)) then fails invalid_address else
+    if not (is_halted (modes (arg a 0))) then fails already_available else
     Begins (arg a 0) (arg a 1) (arg a 2)
 
-abbrev pub hsm_call : Setup → State → Arch → (fid : ℕ) → Call
-hsm_call u s a fid =
-    if fid == 0 then start_call u s a else
+abbrev pub hsm_call : Layout → Modes → Arch → (fid : ℕ) → Call
+hsm_call l modes a fid =
+    if fid == 0 then start_call l modes a else
     if fid == 1 then Leaves else
-    if fid == 2 then (if nat_lt (arg a 0) u.layout.harts then succeeds (state_number (hart s (arg a 0)).mode) else fails invalid_parameter) else
+    if fid == 2 then (if nat_lt (arg a 0) l.harts then succeeds (state_number (modes (arg a 0))) else fails invalid_parameter) else
     fails not_supported
 
 -- reset
@@ -168,15 +174,15 @@ abbrev pub no_call : (eid : ℕ) → Call
 no_call eid = if nat_lt eid 0x10 then GivesOne not_supported else fails not_supported
 
 -- the call that a7 and a6 name
-unfoldable pub sbi_of : Setup → State → Memory → Arch → Call
-sbi_of u s m a =
+unfoldable pub sbi_of : Layout → Modes → Memory → Arch → Call
+sbi_of l modes m a =
     let eid = arg a 7 in
     let fid = arg a 6 in
     if eid == 0x01 then PrintsOne (arg a 0 % 256) else
     if eid == 0x08 then EndsAll Reason.Pass else
     if eid == 0x10 then base_call a fid else
-    if eid == 0x735049 then ipi_call u.layout.harts a fid else
-    if eid == 0x52464E43 then rfence_call u.layout.harts a fid else
-    if eid == 0x48534D then hsm_call u s a fid else
+    if eid == 0x735049 then ipi_call l.harts a fid else
+    if eid == 0x52464E43 then rfence_call l.harts a fid else
+    if eid == 0x48534D then hsm_call l modes a fid else
     if (eid == 0x53525354) && (fid == 0) then reset_call (arg a 0 % 2 ^ 32) (arg a 1 % 2 ^ 32) else
-    if eid == 0x4442434E then console_call u.layout.pages m a fid else no_call eid
+    if eid == 0x4442434E then console_call l.pages m a fid else no_call eid

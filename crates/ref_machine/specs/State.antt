@@ -5,13 +5,9 @@ use Rattle.rv64_priv.specs.State.{Arch}
 use Rattle.rv64_exec.specs.Code.{Code}
 use Rattle.step_laws.specs.declared.words.Layout.{Layout}
 use Rattle.ref_machine.specs.declared.reason.Reason.{Reason}
+use Rattle.ref_machine.specs.declared.hart.Mode.{Mode}
+use Rattle.ref_machine.specs.declared.hart.Mode.TheVariants.{Started, Halted}
 use Rattle.ref_machine.specs.Memory.{Memory, Entry, written}
-
--- a hart runs, is stopped, or was started and has not begun
-pub data Mode : Type 0 where
-  Started : Mode
-  Halted : Mode
-  Pending : Mode
 
 -- what is kept of a hart
 pub record Hart : Type 0 where
@@ -66,6 +62,9 @@ nth harts h = slice_index_or harts h (new_hart Halted 0)
 
 abbrev pub hart : State → ℕ → Hart
 hart s h = nth s.harts h
+
+abbrev pub mode_of : State → ℕ → Mode
+mode_of s h = (hart s h).mode
 
 abbrev pub is_halted : Mode → Bool
 is_halted Halted = true

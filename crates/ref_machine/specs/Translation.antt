@@ -9,7 +9,7 @@ use Rattle.ref_machine.specs.declared.translation.Fault.{Fault as TheFault}
 use Rattle.ref_machine.specs.declared.translation.Reach.{Reach as Reached}
 use Rattle.ref_machine.specs.Memory.{One, Two}
 use Rattle.ref_machine.specs.Access.{Spot, AtRam, AtDevice, Faults, Reach, InRam, OnDevice, Fault, code_word}
-use Rattle.ref_machine.specs.PlainState.{ram_memory}
+use Rattle.ref_machine.specs.SharedState.{ram_memory}
 
 abbrev pub end_of : WalkEnd → Walked
 end_of (WalkEnd.Leaf pte page level) = Leaf pte page level

@@ -1,5 +1,5 @@
 // Laws of the reference machine's runs: each function's contract is its law, for every run.
-ghost use Rattle.ref_machine.specs.Laws.{PlainRunsAreRuns, CountsGrow, OutputGrows, ReasonStays, MemoryIsStored, HartsAreParts, WalksStayAllowed};
+ghost use Rattle.ref_machine.specs.Laws.{PlainRunsAreRuns, CountsGrow, OutputGrows, OutputFits, ReasonStays, MemoryIsStored, HartsAreParts, WalksStayAllowed};
 ghost use Rattle.ref_machine.specs.Reading.{FoundIsAllowed};
 
 /// The plain run of an order is a run: each of its events is lawful.
@@ -11,6 +11,7 @@ pub fn law_plain()
 pub fn law_grows()
     ensures counts { CountsGrow }
     ensures output { OutputGrows }
+    ensures fits { OutputFits }
     ensures reason { ReasonStays }
     ensures memory { MemoryIsStored }
 {}

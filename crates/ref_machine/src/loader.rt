@@ -2,7 +2,7 @@
 ghost use Rattle.std.specs.Prelude.{◌≡◌, ◌+◌, ◌-◌, ◌*◌, ◌≤◌, ◌<◌, ◌^◌, ◌∷◌, ℕ, length, IfOk, IfSome, IsNone, IsTrue, ◌↔◌};
 ghost use Rattle.elf_load.specs.Contents.{is_in_part, part_byte, contents, contents_word};
 ghost use Rattle.elf_load.specs.Header.{number_at};
-ghost use Rattle.ref_machine.specs.PlainState.{IsLoaded};
+ghost use Rattle.ref_machine.specs.SharedState.{IsLoaded};
 
 use byteorder::{ByteOrder, LittleEndian};
 use elf_load::Part;

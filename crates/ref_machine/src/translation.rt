@@ -7,7 +7,7 @@ ghost use Rattle.rv64_priv.specs.Pte.{is_bare};
 ghost use Rattle.rv64_priv.specs.Walk as walk;
 ghost use Rattle.rv64_priv.specs.declared.state.Kind.{Kind as TheKind};
 ghost use Rattle.ref_machine.specs.Access as access;
-ghost use Rattle.ref_machine.specs.PlainState.{ram_reads};
+ghost use Rattle.ref_machine.specs.SharedState.{ram_reads};
 ghost use Rattle.ref_machine.specs.Translation.{end_of, spot, fetch_spot, reached_as, IsInside, IsInRam, IsSpotIn, IsSound, IsSmall};
 
 use rv64_priv::{
@@ -56,8 +56,9 @@ pub(crate) enum Reach {
     Faults(Fault),
 }
 
+/// RAM has a byte at this address.
 #[inline]
-fn is_ram(pages: u32, pa: u64) -> bool
+pub(crate) fn is_ram(pages: u32, pa: u64) -> bool
     ensures { result ≡ walk.is_ram pages pa }
 {
     RAM_BASE <= pa && pa - RAM_BASE < 4096 * u64::from(pages)

@@ -24,7 +24,7 @@ append_nil : {A : Type 0} (xs : List A) → xs ++ [] ≡ xs
 append_nil [] = refl
 append_nil (x ∷ xs) = ap (λ ys. x ∷ ys) (append_nil xs)
 
-pub one_run : (files : Files) (p q : PlainState) (turns : ℕ) → IsStarted files p turns → Ran turns p q → OneRun files q.reason q.console
+pub one_run : (files : Files) (p q : PlainState) (turns : ℕ) → IsStarted files p turns → Ran turns p q → OneRun files q.shared.reason q.shared.console
 one_run files p q turns s ran =
     let u : Setup = plain_setup s.file s.image in
     let g : GoesOn u [] [] turns q = ran u [] [] none s.first in

@@ -10,10 +10,10 @@ use vm_io::{Failed, Sink, write_all};
 
 /// Takes so many turns of hart 0, or fewer where the machine ends; answers its first reason.
 pub(crate) fn take_turns(machine: &mut PlainMachine, turns: u64) -> Option<Reason>
-    requires hart { 0 < machine.old.harts }
-    requires going { machine.old.reason ≡ None }
+    requires hart { 0 < machine.old.shared.layout.harts }
+    requires going { machine.old.shared.reason ≡ None }
     ensures ran { Ran turns machine.old machine.new }
-    ensures reason { result ≡ machine.new.reason }
+    ensures reason { result ≡ machine.new.shared.reason }
 {
     for _taken in 0..turns {
         if let Some(reason) = machine.turn(0) {

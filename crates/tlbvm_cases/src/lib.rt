@@ -17,6 +17,8 @@ mod program;
 #[cfg(test)]
 mod refusals;
 #[cfg(test)]
+mod sbi;
+#[cfg(test)]
 mod stores;
 #[cfg(test)]
 mod supervisor;

@@ -16,7 +16,7 @@ fn hello(alloc: Global, harts: u8, limit: u64) -> Result<PlainMachine, Fail>
     requires some { 1 ≤ harts }
     requires most { harts ≤ 8 }
     requires limit { 0 < limit }
-    ensures { IfOk result (λ machine. machine.harts ≡ harts) }
+    ensures { IfOk result (λ machine. machine.shared.layout.harts ≡ harts) }
 {
     let file = elf(alloc, RAM, &HELLO)?;
     let image = parse(alloc, &file, PAGES)?;
@@ -38,7 +38,7 @@ struct Want<'a> {
 }
 
 fn compare(rt: &impl Abort, machine: &PlainMachine, want: Want<'_>)
-    requires { 0 < machine.now.harts }
+    requires { 0 < machine.now.shared.layout.harts }
 {
     let arch = machine.arch(0);
     assert_eq!(rt; machine.count(0), want.count);
@@ -75,8 +75,8 @@ const LIMITED: Want<'static> = Want {
 
 /// Takes turns of hart 0 until one gives a reason, at most so many; answers how many it took, and the reason.
 fn run(machine: &mut PlainMachine, most: u64) -> (u64, Option<Reason>)
-    requires { 0 < machine.old.harts }
-    ensures { machine.new.harts ≡ machine.old.harts }
+    requires { 0 < machine.old.shared.layout.harts }
+    ensures { machine.new.shared.layout.harts ≡ machine.old.shared.layout.harts }
 {
     for taken in 0..most {
         if let Some(reason) = machine.turn(0) {

@@ -60,7 +60,7 @@ fn at_the_end<'a>(what: &'a str, words: &'a [u32], order: &'a [u8], want: Want<'
 fn machines_end(rt: HostRuntime) -> Result<(), Fail> {
     let alloc = rt.alloc();
     let add = [0x04f0_0313]; // addi x6, x0, 'O'
-    let ecall = [0x0000_0073];
+    let product = [0x0252_82b3]; // mul x5, x5, x5
     let no_device = [0x0000_12b7, 0x0062_8023]; // lui x5, 1; sb x6, 0(x5)
     let far = [0x8000_02b7, 0x0062_8023]; // lui x5, 0x80000, which extends the sign; sb x6, 0(x5)
     let uart_word = [0x1000_02b7, 0x0062_a023]; // lui x5, 0x10000; sw x6, 0(x5)
@@ -96,7 +96,7 @@ fn machines_end(rt: HostRuntime) -> Result<(), Fail> {
             b"turn 0 00000000000000000005",
             order_ended(b"OK"),
         ),
-        at_start("ecall", &ecall, b"turn 0 1\n", UNBUILT),
+        at_start("not built", &product, b"turn 0 1\n", UNBUILT),
         at_start("before a zero word", &add, b"turn 0 1\n", order_ended(b"")),
         at_start("a zero word", &add, b"turn 0 2\n", order_ended(b"")),
         at_the_end("RAM's last word", &add, b"turn 0 1\n", order_ended(b"")),
@@ -158,6 +158,22 @@ fn guests_fail(rt: HostRuntime) -> Result<(), Fail> {
         compare(&rt, &ended, want, log);
         assert_eq!(rt; code(&ended.status), 11);
     }
+    Ok(())
+}
+
+// A call that there is not answers so, and its guest goes on.
+#[test]
+fn an_absent_call_is_no_end(rt: HostRuntime) -> Result<(), Fail> {
+    let alloc = rt.alloc();
+    let ecall = [0x0000_0073];
+    let files = files(
+        alloc,
+        elf(alloc, RAM, &ecall)?,
+        b"turn 0 1\n".to_vec(alloc)?,
+    )?;
+    let ended = call(alloc, PLAIN, files, NO_FAULTS)?;
+    compare(&rt, &ended, order_ended(b""), "an absent call");
+    assert_eq!(rt; code(&ended.status), 15);
     Ok(())
 }
 

@@ -1,6 +1,6 @@
 // A guest in supervisor mode: page tables, traps, interrupts, user mode. What is wanted stands in the RISC-V Privileged
 // Architecture, "Supervisor-Level ISA".
-ghost use Rattle.std.specs.Prelude.{◌≡◌, ◌<◌, IfOk};
+ghost use Rattle.std.specs.Prelude.{◌≡◌, ◌≤◌, ◌<◌, IfOk};
 
 mod paging;
 mod traps;
@@ -13,10 +13,7 @@ use std::process::Abort;
 use std::test::Fail;
 use step_laws::Layout;
 
-const LAYOUT: Layout = Layout {
-    harts: 1,
-    pages: 1024,
-};
+const PAGES: u32 = 1024;
 
 /// The root table, at 0x80010000: a table for the addresses below 1 GiB, a table that lies in no RAM for the next GiB,
 /// and a leaf that maps the third GiB to itself.
@@ -40,9 +37,18 @@ const LOW: [u32; 10] = [
     0,
 ];
 
-/// A machine with this code at RAM's begin, the tables, and data that tell places apart.
+/// A machine of one hart, as `machine_of`.
 fn machine(alloc: Global, code: &[u32]) -> Result<PlainMachine, Fail>
-    ensures { IfOk result (λ machine. machine.harts ≡ 1) }
+    ensures { IfOk result (λ machine. machine.shared.layout.harts ≡ 1) }
+{
+    machine_of(alloc, 1, code)
+}
+
+/// A machine with this code at RAM's begin, the tables, and data that tell places apart.
+pub(crate) fn machine_of(alloc: Global, harts: u8, code: &[u32]) -> Result<PlainMachine, Fail>
+    requires some { 1 ≤ harts }
+    requires most { harts ≤ 8 }
+    ensures { IfOk result (λ machine. machine.shared.layout.harts ≡ harts) }
 {
     let segments = [
         (RAM, code),
@@ -56,8 +62,12 @@ fn machine(alloc: Global, code: &[u32]) -> Result<PlainMachine, Fail>
         (0x8020_3000, [0x33].as_slice()),
     ];
     let file = elf_of(alloc, RAM, &segments)?;
-    let image = parse(alloc, &file, LAYOUT.pages)?;
-    Ok(PlainMachine::new(alloc, &image, &file, LAYOUT, 50_000_000)?)
+    let image = parse(alloc, &file, PAGES)?;
+    let layout = Layout {
+        harts,
+        pages: PAGES,
+    };
+    Ok(PlainMachine::new(alloc, &image, &file, layout, 50_000_000)?)
 }
 
 /// Where the guests have their handler that have one.
@@ -107,7 +117,7 @@ fn caught(scause: u64, sepc: u64, stval: u64, count: u64) -> Want {
 }
 
 fn compare(rt: &impl Abort, machine: &PlainMachine, want: Want, what: &str)
-    requires { 0 < machine.now.harts }
+    requires { 0 < machine.now.shared.layout.harts }
 {
     let arch = machine.arch(0);
     assert_eq!(rt; arch.pc, want.pc, "pc: {what}");
@@ -119,8 +129,8 @@ fn compare(rt: &impl Abort, machine: &PlainMachine, want: Want, what: &str)
 
 /// Takes so many turns, and answers what the last of them does.
 fn turn_times(machine: &mut PlainMachine, turns: u64) -> Option<Reason>
-    requires { 0 < machine.old.harts }
-    ensures { machine.new.harts ≡ machine.old.harts }
+    requires { 0 < machine.old.shared.layout.harts }
+    ensures { machine.new.shared.layout.harts ≡ machine.old.shared.layout.harts }
 {
     let mut answer = None;
     for _ in 0..turns {

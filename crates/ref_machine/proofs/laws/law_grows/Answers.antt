@@ -1,4 +1,5 @@
 use Rattle.ref_machine.proofs.Grows.{counts_grow, output_grows, reason_stays, memory_is_stored}
+use Rattle.ref_machine.proofs.Fits.{output_fits}
 use Rattle.ref_machine.proofs.laws.law_grows.Goals as goal
 
 pub returns-clause-counts : goal.returns-clause-counts
@@ -12,3 +13,6 @@ returns-clause-reason c = reason_stays
 
 pub returns-clause-memory : goal.returns-clause-memory
 returns-clause-memory c = memory_is_stored
+
+pub returns-clause-fits : goal.returns-clause-fits
+returns-clause-fits c = output_fits

@@ -1,6 +1,6 @@
 -- RAM has the parts from here on.
 use Rattle.std.proofs.Common.{drop}
-use Rattle.ref_machine.specs.PlainState.{IsLoaded}
+use Rattle.ref_machine.specs.SharedState.{IsLoaded}
 use Rattle.ref_machine.proofs.loader.load.Given as goal
 
 abbrev pub invariant-loop-i : goal.invariant-loop-i

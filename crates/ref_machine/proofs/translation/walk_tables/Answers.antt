@@ -1,6 +1,6 @@
 -- Where a walk of the page tables ends.
 use Rattle.std.proofs.Common.{sym, subst}
-use Rattle.ref_machine.specs.PlainState.{ram_reads}
+use Rattle.ref_machine.specs.SharedState.{ram_reads}
 use Rattle.ref_machine.specs.Translation.{end_of, IsSound}
 use Rattle.ref_machine.proofs.Fresh.{from_sound, sound_small}
 use Rattle.ref_machine.proofs.translation.walk_tables.Goals as goal

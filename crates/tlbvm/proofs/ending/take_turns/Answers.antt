@@ -1,4 +1,5 @@
 -- One turn more; behind the first reason no turn is taken.
+use Rattle.step_laws.specs.declared.words.Layout.{Layout}
 use Rattle.std.proofs.Common.{◌≡◌, sym, ◌∙◌, ap, subst, ◌<◌, ◌+◌, ◌-◌, arith}
 use Rattle.std.specs.Prelude.{is_some}
 use Rattle.ref_machine.proofs.Runs.{ran_turn, ran_over}
@@ -13,7 +14,7 @@ returns-in-Some-clause-ran c =
 
 pub loop-taken-preserved : goal.loop-taken-preserved
 loop-taken-preserved c = record {
-  hart = subst (λ n. 0 < n) (sym c.turn.ensures.harts) c.loop-taken.invariant.hart;
+  hart = subst (λ n. 0 < n) (sym (ap (λ (l : Layout). l.harts) c.turn.ensures.layout)) c.loop-taken.invariant.hart;
   going = sym c.turn.ensures.reason ∙ c.in_default.is;
   ran = ran_turn c.loop-taken._taken c.args.machine.now c.loop-taken.machine c.turn.new.self c.loop-taken.invariant.going c.loop-taken.invariant.ran c.turn.ensures.turned;
 }

@@ -3,4 +3,4 @@ use Rattle.std.proofs.Common.{◌≡◌}
 use Rattle.tlbvm_cases.proofs.machine.run.Given as goal
 
 abbrev pub invariant-loop-taken : goal.invariant-loop-taken
-invariant-loop-taken l = l.machine.harts ≡ l.fn.machine.harts
+invariant-loop-taken l = l.machine.shared.layout.harts ≡ l.fn.machine.shared.layout.harts

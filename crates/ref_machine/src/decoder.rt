@@ -1,0 +1,100 @@
+// Words that were decoded. An entry is found by where its word stands and known by the word itself, so no store in RAM
+// makes one wrong.
+ghost use Rattle.std.specs.Prelude.{◌≡◌, ◌<◌, IfOk, length};
+ghost use Rattle.ref_machine.specs.Decoded as decoded;
+
+use rv64_decode::{Instr, decode};
+use std::alloc::Global;
+use std::marker::Model;
+use vm_io::NoMemory;
+
+/// How many words are kept.
+const ENTRIES: usize = 1024;
+
+/// The word of ECALL, which each entry has at first.
+const FIRST: u32 = 0x73;
+
+/// A word and its instruction.
+#[derive(Clone, Copy)]
+pub(crate) struct Entry {
+    pub word: u32,
+    pub instr: Instr,
+}
+
+/// The words that were decoded last.
+#[derive(Drop)]
+pub(crate) struct Decoder {
+    entries: Vec<Entry>,
+}
+
+impl Model for Decoder {
+    ghost use Rattle.std.specs.Prelude.{List};
+    ghost use Rattle.ref_machine.specs.Decoded.{view_of, IsCache};
+    ghost use Rattle.ref_machine.specs.declared.decoder.Entry.{Entry as TheEntry};
+
+    ghost Value = { List TheEntry };
+
+    ghost view = { view_of };
+
+    ghost invariant = { IsCache };
+}
+
+fn first_entry() -> Entry
+    ensures { decoded.IsEntry result }
+{
+    let instr = match decode(FIRST) {
+        Some(instr) => instr,
+        None => Instr::Ecall,
+    };
+    Entry { word: FIRST, instr }
+}
+
+#[tactic(auto, using(crate::proofs::Decoding::entries_first))]
+fn first_entries(alloc: Global) -> Result<Vec<Entry>, NoMemory>
+    ensures len { IfOk result (λ entries. length entries.items ≡ 1024) }
+    ensures all { IfOk result (λ entries. decoded.AreEntries entries.items) }
+{
+    let entry = first_entry();
+    let Ok(mut entries) = Vec::with_capacity(alloc, ENTRIES) else {
+        return Err(NoMemory);
+    };
+    for _ in 0..ENTRIES {
+        let _pushed = entries.push(entry);
+    }
+    Ok(entries)
+}
+
+/// Decodes a word anew, and keeps it.
+#[inline(never)]
+fn decode_anew(entries: &mut [Entry], index: usize, word: u32) -> Option<Instr>
+    requires there { index < length entries.old }
+    requires all { decoded.AreEntries entries.old }
+    ensures found { decoded.DecodesOnly word result }
+    ensures all { decoded.AreEntries entries.new }
+    ensures len { length entries.new ≡ length entries.old }
+{
+    let instr = decode(word)?;
+    entries[index] = Entry { word, instr };
+    Some(instr)
+}
+
+impl Decoder {
+    /// With no word of the guest yet.
+    pub(crate) fn new(alloc: Global) -> Result<Decoder, NoMemory> {
+        let entries = first_entries(alloc)?;
+        Ok(Decoder { entries })
+    }
+
+    /// The instruction of a word that stands at this place; `None` where the word is none.
+    #[inline]
+    pub(crate) fn find(&mut self, word: u32, place: u64) -> Option<Instr>
+        ensures { decoded.DecodesOnly word result }
+    {
+        let index = (place / 4) as usize % ENTRIES;
+        let entry = &self.entries[index];
+        if entry.word == word {
+            return Some(entry.instr);
+        }
+        decode_anew(self.entries.as_mut_slice(), index, word)
+    }
+}
