@@ -1,7 +1,7 @@
-/* A plain interpreter of the RV64I base in C: the yardstick of bench/mixed.py, and no part of the product.
+/* A plain interpreter of RV64IM in C: the yardstick of bench/mixed.py, and no part of the product.
  *
  * interpreter IMAGE TURNS: the raw words of IMAGE stand at 0x80000000 in 4 MiB of RAM, where the hart begins; it takes TURNS
- * turns. A form that the product's `plain` doesn't serve ends it with status 1. */
+ * turns and prints the hart's line as the product's `--regs` does. What it has no code for ends it with status 1. */
 #include <stdint.h>
 #include <stdio.h>
 #include <stdlib.h>
@@ -64,6 +64,40 @@ static int64_t immediate_b(uint32_t w)
 static int64_t immediate_j(uint32_t w)
 {
     return ((int32_t)w >> 31) * 1048576 + (int32_t)((w & 0xff000) | (w >> 9 & 0x800) | (w >> 20 & 0x7fe));
+}
+
+/* The M extension on 64 bits. A division by zero gives all ones and leaves the dividend; one that overflows gives the dividend
+ * and leaves 0. */
+static uint64_t multiply_or_divide(unsigned f3, uint64_t a, uint64_t b)
+{
+    int64_t p = a, q = b;
+    switch (f3) {
+    case 0: return a * b;
+    case 1: return (__int128)p * q >> 64;
+    case 2: return (__int128)p * b >> 64;
+    case 3: return (unsigned __int128)a * b >> 64;
+    case 4: return b == 0 ? UINT64_MAX : q == -1 ? -a : (uint64_t)(p / q);
+    case 5: return b == 0 ? UINT64_MAX : a / b;
+    case 6: return b == 0 ? a : q == -1 ? 0 : (uint64_t)(p % q);
+    default: return b == 0 ? a : a % b;
+    }
+}
+
+/* The same on the low 32 bits, where there are no high products. */
+static enum end multiply_or_divide_word(unsigned f3, uint32_t a, uint32_t b, uint64_t *result)
+{
+    int32_t p = a, q = b;
+    uint32_t word;
+    switch (f3) {
+    case 0: word = a * b; break;
+    case 4: word = b == 0 ? UINT32_MAX : q == -1 ? -a : (uint32_t)(p / q); break;
+    case 5: word = b == 0 ? UINT32_MAX : a / b; break;
+    case 6: word = b == 0 ? a : q == -1 ? 0 : (uint32_t)(p % q); break;
+    case 7: word = b == 0 ? a : a % b; break;
+    default: return UNBUILT;
+    }
+    *result = (int64_t)(int32_t)word;
+    return GOES_ON;
 }
 
 static enum end turn(struct machine *m)
@@ -188,6 +222,10 @@ static enum end turn(struct machine *m)
                 return UNBUILT;
             break;
         }
+        if (f7 == 1) {
+            result = multiply_or_divide(f3, a, b);
+            break;
+        }
         if (f7)
             return UNBUILT;
         switch (f3) {
@@ -212,7 +250,7 @@ static enum end turn(struct machine *m)
             result = (int64_t)(int32_t)(a - b);
         else if (f7 == 32 && f3 == 5)
             result = (int64_t)((int32_t)a >> (b & 31));
-        else
+        else if (f7 != 1 || multiply_or_divide_word(f3, a, b, &result) == UNBUILT)
             return UNBUILT;
         break;
     case 0x0f:
@@ -243,6 +281,9 @@ int main(int argc, char **argv)
     enum end end = GOES_ON;
     while (turns-- && end == GOES_ON)
         end = turn(&m);
-    printf("%d %llu %016llx\n", end, (unsigned long long)m.count, (unsigned long long)m.x[10]);
+    printf("hart 0 %llu %016llx", (unsigned long long)m.count, (unsigned long long)m.pc);
+    for (int register_number = 1; register_number < 32; register_number++)
+        printf(" %016llx", (unsigned long long)m.x[register_number]);
+    putchar('\n');
     return end == UNBUILT;
 }

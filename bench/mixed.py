@@ -1,9 +1,10 @@
 #!/usr/bin/env python3
-"""Prints how fast `tlbvm plain` is beside a plain interpreter in C, on one mixed loop.
+"""Prints how fast `tlbvm plain` is beside a plain interpreter in C, on two mixed loops.
 
-The guest loads, adds, shifts, compares, stores and branches in a loop; both take 1,000,000 turns of it. What a call costs
-besides its turns is taken off: each also runs for one turn, and of each the best processor time counts. Skipped, saying so,
-where there is no C compiler.
+The first guest loads, adds, shifts, compares, stores and branches in a loop; both take 1,000,000 turns of it, and `plain`
+also where its addresses are translated by pages of 4 KiB. In the second one instruction in four multiplies or divides.
+Both have to end in the same registers. What a call costs besides its turns is taken off: each also runs for one turn, and
+of each the best processor time counts. Skipped, saying so, where there is no C compiler.
 """
 import os
 import pathlib
@@ -19,6 +20,7 @@ sys.dont_write_bytecode = True
 sys.path.insert(0, str(TOP / "examples"))
 from make_hello import elf
 
+PROGRAM = TOP / "crates/tlbvm_main/out/tlbvm_main"
 TURNS = 1_000_000
 RUNS = int(os.environ.get("RUNS", 25))
 
@@ -68,6 +70,115 @@ def guest():
     ]
 
 
+def hashing():
+    """A generator's next number goes to memory, and finds a word of the table."""
+    return [
+        i(0x03, 3, 7, 5, 0),  # ld x7, 0(x5)
+        r(0x33, 0, 1, 11, 11, 16),  # mul x11, x11, x16
+        r(0x33, 0, 0, 11, 11, 17),  # add x11, x11, x17
+        i(0x13, 5, 12, 11, 17),  # srli x12, x11, 17
+        r(0x33, 4, 0, 12, 12, 11),  # xor x12, x12, x11
+        r(0x33, 3, 1, 13, 12, 7),  # mulhu x13, x12, x7
+        r(0x33, 0, 0, 10, 10, 13),  # add x10, x10, x13
+        s(3, 5, 12, 0),  # sd x12, 0(x5)
+        r(0x33, 7, 1, 20, 12, 18),  # remu x20, x12, x18
+        i(0x13, 1, 20, 20, 3),  # slli x20, x20, 3
+        r(0x33, 0, 0, 20, 20, 21),  # add x20, x20, x21
+        i(0x03, 3, 22, 20, 0),  # ld x22, 0(x20)
+        b(1, 22, 0, 8),  # bne x22, x0, over one
+        i(0x13, 0, 10, 10, 1),  # addi x10, x10, 1
+    ]
+
+
+def digit():
+    """Words of 32 bits: a product's last decimal digit goes to memory as a character."""
+    return [
+        i(0x03, 2, 14, 5, 4),  # lw x14, 4(x5)
+        r(0x3B, 0, 1, 15, 14, 16),  # mulw x15, x14, x16
+        r(0x3B, 0, 0, 15, 15, 22),  # addw x15, x15, x22
+        r(0x3B, 5, 1, 23, 15, 19),  # divuw x23, x15, x19
+        r(0x3B, 0, 1, 24, 23, 19),  # mulw x24, x23, x19
+        r(0x3B, 0, 32, 24, 15, 24),  # subw x24, x15, x24
+        i(0x13, 0, 24, 24, 48),  # addi x24, x24, 48
+        s(0, 5, 24, 3),  # sb x24, 3(x5)
+        b(4, 15, 14, 12),  # blt x15, x14, over two
+        r(0x3B, 6, 1, 25, 15, 22),  # remw x25, x15, x22
+        r(0x33, 0, 0, 10, 10, 25),  # add x10, x10, x25
+    ]
+
+
+def scaling():
+    """A quotient by way of a high product, and one by a division."""
+    return [
+        r(0x33, 1, 1, 26, 11, 22),  # mulh x26, x11, x22
+        i(0x13, 5, 27, 11, 0x400 + 63),  # srai x27, x11, 63
+        r(0x33, 0, 32, 26, 26, 27),  # sub x26, x26, x27
+        r(0x33, 0, 1, 28, 26, 18),  # mul x28, x26, x18
+        r(0x33, 0, 32, 28, 11, 28),  # sub x28, x11, x28
+        i(0x03, 2, 13, 20, 0),  # lw x13, 0(x20)
+        r(0x33, 4, 1, 29, 10, 7),  # div x29, x10, x7
+        b(5, 29, 0, 8),  # bge x29, x0, over one
+        r(0x33, 0, 0, 10, 10, 29),  # add x10, x10, x29
+        r(0x33, 2, 1, 30, 26, 12),  # mulhsu x30, x26, x12
+        r(0x33, 4, 0, 10, 10, 30),  # xor x10, x10, x30
+        i(0x03, 5, 31, 5, 2),  # lhu x31, 2(x5)
+        r(0x33, 0, 1, 31, 31, 18),  # mul x31, x31, x18
+        r(0x33, 0, 0, 28, 28, 31),  # add x28, x28, x31
+        s(1, 20, 28, 6),  # sh x28, 6(x20)
+        i(0x03, 4, 14, 20, 5),  # lbu x14, 5(x20)
+        r(0x33, 3, 0, 15, 13, 31),  # sltu x15, x13, x31
+        b(6, 14, 15, 8),  # bltu x14, x15, over one
+        r(0x33, 0, 0, 10, 10, 15),  # add x10, x10, x15
+        s(2, 20, 29, 0),  # sw x29, 0(x20)
+    ]
+
+
+def multiplying():
+    """x5 walks over 2048 bytes as above; its first pass meets zeros, and divides by them."""
+    loop = [*hashing(), *digit(), *scaling(), i(0x13, 0, 5, 5, 8)]  # addi x5, x5, 8
+    return [
+        i(0x13, 0, 9, 0, 1),  # addi x9, x0, 1
+        i(0x13, 1, 9, 9, 31),  # slli x9, x9, 31
+        i(0x13, 0, 5, 9, 1024),  # addi x5, x9, 1024
+        i(0x13, 0, 6, 5, 2040),  # addi x6, x5, 2040
+        i(0x13, 0, 11, 0, 77),  # addi x11, x0, 77
+        0x196 << 12 | 16 << 7 | 0x37,  # lui x16, 0x196
+        i(0x13, 0, 16, 16, 0x60D),  # addi x16, x16, 0x60d
+        i(0x13, 0, 17, 0, 1013),  # addi x17, x0, 1013
+        i(0x13, 0, 18, 0, 251),  # addi x18, x0, 251
+        i(0x13, 0, 19, 0, 10),  # addi x19, x0, 10
+        i(0x13, 0, 21, 5, 0),  # addi x21, x5, 0
+        *loop,
+        b(6, 5, 6, -4 * len(loop)),  # bltu x5, x6, the loop
+        i(0x13, 0, 5, 9, 1024),  # addi x5, x9, 1024
+        b(0, 0, 0, -4 * (len(loop) + 2)),  # beq x0, x0, the loop
+    ]
+
+
+def leaf(page):
+    """A page of 4096 bytes that may be read, written and executed, with A and D set."""
+    return page << 10 | 0xCF
+
+
+def translated():
+    """The same guest behind satp: page tables at 0x80001000, 0x80002000 and 0x80003000 map 2 MiB, page by page, to themselves."""
+    code = [
+        i(0x13, 0, 5, 0, 1),  # addi x5, x0, 1
+        i(0x13, 1, 5, 5, 63),  # slli x5, x5, 63
+        0x80 << 12 | 6 << 7 | 0x37,  # lui x6, 0x80
+        i(0x13, 0, 6, 6, 1),  # addi x6, x6, 1
+        r(0x33, 6, 0, 5, 5, 6),  # or x5, x5, x6
+        i(0x73, 1, 0, 5, 0x180),  # csrrw x0, satp, x5
+        *guest(),
+    ]
+    root = {2: 0x80002 << 10 | 1}
+    middle = {0: 0x80003 << 10 | 1}
+    low = {entry: leaf(0x80000 + entry) for entry in range(512)}
+    tables = [table.get(entry, 0) for table in (root, middle, low) for entry in range(512)]
+    halves = [half for entry in tables for half in (entry & 0xFFFFFFFF, entry >> 32)]
+    return code + [0] * (1024 - len(code)) + halves
+
+
 def seconds(command, status):
     used = resource.getrusage(resource.RUSAGE_CHILDREN)
     start = used.ru_utime + used.ru_stime
@@ -84,27 +195,50 @@ def rate(all_turns, one_turn, status):
     return (TURNS - 1) / (best_all - best_one) / 1e6
 
 
+def built(folder):
+    """The C interpreter, and by the launcher the program, where it isn't built."""
+    interpreter = folder / "interpreter"
+    subprocess.run([shutil.which("cc"), "-O2", "-o", interpreter, TOP / "bench/interpreter.c"], check=True)
+    (folder / "all.order").write_text(f"turn 0 {TURNS}\n")
+    (folder / "one.order").write_text("turn 0 1\n")
+    (folder / "guest.elf").write_bytes(elf(guest()))
+    subprocess.run([TOP / "tlbvm", "plain", folder / "guest.elf", folder / "one.order"], capture_output=True)
+    return interpreter
+
+
+def plain_rate(folder, words):
+    image = folder / "guest.elf"
+    image.write_bytes(elf(words))
+    command = [PROGRAM, "plain", image]
+    return rate([*command, folder / "all.order"], [*command, folder / "one.order"], 15)
+
+
+def both_rates(folder, interpreter, words):
+    """The rates of `plain` and of the C interpreter, which have to end in the same registers."""
+    ours = plain_rate(folder, words)
+    raw = folder / "guest.bin"
+    raw.write_bytes(struct.pack(f"<{len(words)}I", *words))
+    theirs = rate([interpreter, raw, str(TURNS)], [interpreter, raw, "1"], 0)
+    report = subprocess.run([PROGRAM, "plain", folder / "guest.elf", folder / "all.order", "--regs"], capture_output=True).stderr
+    line = subprocess.run([interpreter, raw, str(TURNS)], capture_output=True).stdout
+    if line not in report.splitlines(keepends=True):
+        sys.exit(f"the registers differ: plain reports\n{report.decode()}and the C interpreter\n{line.decode()}")
+    return ours, theirs
+
+
 def main():
-    compiler = shutil.which("cc")
-    if compiler is None:
+    if shutil.which("cc") is None:
         sys.exit("skipped: there is no C compiler (cc)")
     with tempfile.TemporaryDirectory() as folder:
         folder = pathlib.Path(folder)
-        words = guest()
-        (folder / "mixed.elf").write_bytes(elf(words))
-        (folder / "mixed.bin").write_bytes(struct.pack(f"<{len(words)}I", *words))
-        (folder / "all.order").write_text(f"turn 0 {TURNS}\n")
-        (folder / "one.order").write_text("turn 0 1\n")
-        interpreter = folder / "interpreter"
-        subprocess.run([compiler, "-O2", "-o", interpreter, TOP / "bench/interpreter.c"], check=True)
-        image = folder / "mixed.elf"
-        subprocess.run([TOP / "tlbvm", "plain", image, folder / "one.order"], capture_output=True)
-        program = TOP / "crates/tlbvm_main/out/tlbvm_main"
-        ours = rate([program, "plain", image, folder / "all.order"], [program, "plain", image, folder / "one.order"], 15)
-        raw = folder / "mixed.bin"
-        theirs = rate([interpreter, raw, str(TURNS)], [interpreter, raw, "1"], 0)
+        interpreter = built(folder)
+        ours, theirs = both_rates(folder, interpreter, guest())
+        walked = plain_rate(folder, translated())
+        ours_m, theirs_m = both_rates(folder, interpreter, multiplying())
     print(
         f"plain: {ours:.1f} million guest instructions a second; the C interpreter: {theirs:.1f}; ratio {ours / theirs:.2f}"
+        f"; under Sv39, every translation walked: {walked:.1f}; ratio {walked / theirs:.2f}"
+        f"; with M: {ours_m:.1f}; the C interpreter: {theirs_m:.1f}; ratio {ours_m / theirs_m:.2f}"
         f" (processors {os.cpu_count()}, load {os.getloadavg()[0]:.2f})"
     )
 

@@ -13,8 +13,10 @@ same() {
 for file in hello.elf hello.order; do
     same "examples/$file" "crates/tlbvm_main/data/$file"
 done
-if ! python3 examples/make_hello.py | cmp -- - examples/hello.elf; then
-    echo "check_copies: examples/hello.elf is not what examples/make_hello.py writes" >&2
-    status=1
-fi
+for name in hello harts; do
+    if ! PYTHONDONTWRITEBYTECODE=1 python3 "examples/make_$name.py" | cmp -- - "examples/$name.elf"; then
+        echo "check_copies: examples/$name.elf is not what examples/make_$name.py writes" >&2
+        status=1
+    fi
+done
 exit $status

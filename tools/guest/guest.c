@@ -1,9 +1,9 @@
-/* A guest in supervisor mode with page tables of its own: it sorts, walks its own mappings, faults, is interrupted, and runs a
-   user. It prints a line for each, and says nothing that two right machines could print differently. */
-typedef unsigned long word;
-typedef unsigned char byte;
+/* A guest in supervisor mode with page tables of its own: it sorts, multiplies and divides, walks its own mappings, uses atomics,
+   faults, is interrupted, and runs a user. It prints a line for each, and says nothing that two right machines could print
+   differently. */
+#include "guest.h"
 
-enum { PAGE = 4096, ENTRIES = 512 };
+enum { ENTRIES = 512 };
 enum { V = 1, R = 2, W = 4, X = 8, U = 16, A = 64, D = 128 };
 
 extern byte user_code[];
@@ -18,9 +18,9 @@ static word low[ENTRIES] __attribute__((aligned(PAGE)));
 static word one[ENTRIES] __attribute__((aligned(PAGE)));
 static word two[ENTRIES] __attribute__((aligned(PAGE)));
 
-static volatile word last_cause, last_value;
+volatile word last_cause, last_value;
 
-static void put(const char *text)
+void put(const char *text)
 {
     while (*text)
         *uart = *text++;
@@ -34,7 +34,7 @@ static void put_hex(word number)
     }
 }
 
-static void line(const char *what, word number)
+void line(const char *what, word number)
 {
     put(what);
     put(" ");
@@ -113,6 +113,26 @@ static void faulting_store(const char *what, word address)
     line("  value", last_value);
 }
 
+static void faulting_atomic(const char *what, word address)
+{
+    word number = 0x5eed;
+    last_cause = last_value = 0;
+    asm volatile("amoadd.d %0, %0, (%1)" : "+r"(number) : "r"(address) : "memory");
+    line(what, number);
+    line("  cause", last_cause);
+    line("  value", last_value);
+}
+
+static void faulting_reservation(const char *what, word address)
+{
+    word number = 0x5eed;
+    last_cause = last_value = 0;
+    asm volatile("lr.d %0, (%1)" : "+r"(number) : "r"(address) : "memory");
+    line(what, number);
+    line("  cause", last_cause);
+    line("  value", last_value);
+}
+
 static void sorting(void)
 {
     static unsigned numbers[64];
@@ -150,6 +170,8 @@ static void translating(void)
     low[2] = entry(one, R | W);
     fence();
     line("two is one", load(base + 2 * PAGE + 8));
+    faulting_atomic("added to both", base + 2 * PAGE + 8);
+    line("one", load(base + PAGE + 8));
     low[2] = entry(two, R | W);
     fence();
 }
@@ -169,6 +191,11 @@ static void faulting(void)
     asm volatile("csrc sstatus, %0" ::"r"(1ul << 19));
     faulting_load("not canonical", 1ul << 40);
     faulting_load("over the last page", base + 3 * PAGE - 4);
+    faulting_atomic("atomic, no page", base + 3 * PAGE + 16);
+    faulting_atomic("atomic, read only", base + 4 * PAGE + 16);
+    faulting_atomic("atomic, the user's", base + 5 * PAGE);
+    faulting_reservation("reservation, read only", base + 4 * PAGE + 16);
+    faulting_reservation("reservation, no page", base + 3 * PAGE + 16);
 }
 
 static void interrupting(void)
@@ -186,8 +213,10 @@ void guest(void)
 {
     put("guest\n");
     sorting();
+    arithmetic();
     paging();
     translating();
+    atomics();
     faulting();
     interrupting();
     line("user", enter_user(0x200000 + 6 * PAGE, 0x200000 + 5 * PAGE));

@@ -1,12 +1,13 @@
 # Where the guest begins, takes traps, and enters and leaves user mode. It runs in supervisor mode. A machine that begins in
-# machine mode, as QEMU's "virt" does without firmware, first hands everything to the supervisor and goes there; one that begins
-# in supervisor mode comes there at once, by the trap of an instruction that it doesn't have.
+# machine mode, as QEMU's "virt" does without firmware, first hands everything to the supervisor and goes there, on hart 0 alone;
+# one that begins in supervisor mode comes there at once, by the trap of an instruction that it doesn't have.
     .section .text.start
     .globl _start
 _start:
     la t0, in_supervisor
     csrw stvec, t0
-    csrr t1, mstatus
+    csrr t1, mhartid
+    bnez t1, other_hart
     li t1, -1
     csrw pmpaddr0, t1
     li t1, 0x1f
@@ -20,6 +21,9 @@ _start:
     csrs mstatus, t1
     csrw mepc, t0
     mret
+other_hart:
+    wfi
+    j other_hart
 
     .balign 4
 in_supervisor:

@@ -1,16 +1,24 @@
--- Definitions computed on small inputs: walks of a small map, hart masks, ranges of remote fences, and starts of a hart.
-use Rattle.std.proofs.Common.{◌≡◌, refl, ℕ, ◌+◌, ◌-◌, ◌*◌, ◌^◌, [], ◌∷◌, ◌++◌, replicate, Some, None, true, false, Bool}
+-- Definitions computed on small inputs: walks of a small map, hart masks, ranges of remote fences, starts of a hart, and
+-- atomic accesses.
+use Rattle.std.proofs.Common.{◌≡◌, refl, ℕ, ◌+◌, ◌-◌, ◌*◌, ◌^◌, [], ◌∷◌, ◌++◌, replicate, Option, Some, None, true, false, Bool}
 use Rattle.std.specs.Prelude.{◌==◌, if◌then◌else◌}
 use Rattle.rv64_priv.specs.State.{Arch}
+use Rattle.rv64_priv.specs.declared.state.Hold.{Hold}
 use Rattle.rv64_priv.specs.declared.state.Kind.{Kind}
 use Rattle.rv64_priv.specs.declared.state.Regime.{Regime}
 use Rattle.rv64_priv.specs.Flush.{Full, Pages}
 use Rattle.rv64_priv.specs.Walk.{Levels, Walked, Leaf, PageFault, AccessFault, walk_of}
+use Rattle.rv64_exec.specs.declared.needs.AmoOp.{AmoOp}
+use Rattle.rv64_exec.specs.declared.needs.Need.{Need}
+use Rattle.rv64_exec.specs.declared.needs.Answer.{Answer}
+use Rattle.step_laws.specs.Words.{first_ram_word}
+use Rattle.ref_machine.specs.Memory.{write_of}
+use Rattle.ref_machine.specs.Perform.{perform, faults}
 use Rattle.ref_machine.specs.Sbi.{Call, Gives, Begins, named, are_there, bits_of, fence_range, sbi_of, invalid_parameter, invalid_address, already_available}
 use Rattle.ref_machine.specs.declared.hart.Mode.TheVariants.{Started}
 use Rattle.ref_machine.specs.State.{Setup, State, Hart, hart, mode_of, initial, reset}
 use Rattle.ref_machine.specs.Change.{state_after, awaited}
-use Rattle.ref_machine.specs.Event.{Start}
+use Rattle.ref_machine.specs.Event.{Outcome, Start, only}
 
 -- THE MAP
 
@@ -174,3 +182,130 @@ begun_with = refl
 
 begun_mode : begun.mode ≡ Started
 begun_mode = refl
+
+-- ATOMIC ACCESSES
+
+-- RAM's first word, of two halves
+abbrev one_word : Setup
+one_word = record two_harts { image = λ word. if word == first_ram_word then 0x1122334480000000 else 0 }
+
+abbrev keeping : Option Hold → State
+keeping hold = record (initial one_word) { harts = record (hart (initial one_word) 0) { arch = record (reset 0x80000000) { hold = hold } } ∷ [] }
+
+-- what hart 0 does that holds this, by a walk with this end; by one that leads to RAM's first page; and by one that finds no page
+abbrev by : Walked → Option Hold → Need → Outcome
+by walk hold need = perform one_word (keeping hold) 0 walk PageFault need
+
+abbrev did : Option Hold → Need → Outcome
+did hold need = by (Leaf 0xcf 0x80000000 0) hold need
+
+abbrev lost : Need → Outcome
+lost need = by PageFault None need
+
+-- an operation that answered this and left that
+abbrev changed : (old new : ℕ) → Outcome
+changed old new = record (only (Answer.Value old)) { entry = Some (write_of first_ram_word new ∷ []) }
+
+abbrev held : (pa : ℕ) → Bool → (word : ℕ) → Option Hold
+held pa wide word = Some (record { pa = pa; wide = wide; word = word })
+
+-- the low half is negative as a signed number, and answered so
+greatest_of_words : did None (Need.Amo 0x80000000 AmoOp.Max false 1) ≡ changed 0xffffffff80000000 0x1122334400000001
+unfolding perform
+greatest_of_words = refl
+
+greatest_unsigned : did None (Need.Amo 0x80000000 AmoOp.MaxU false 1) ≡ changed 0xffffffff80000000 0x1122334480000000
+unfolding perform
+greatest_unsigned = refl
+
+least_of_words : did None (Need.Amo 0x80000000 AmoOp.Min false 0x7fffffff) ≡ changed 0xffffffff80000000 0x1122334480000000
+unfolding perform
+least_of_words = refl
+
+least_unsigned : did None (Need.Amo 0x80000000 AmoOp.MinU false 0xffffffff7fffffff) ≡ changed 0xffffffff80000000 0x112233447fffffff
+unfolding perform
+least_unsigned = refl
+
+-- of the register an operation on 4 bytes takes the low 32 bits
+operand_of_a_word : did None (Need.Amo 0x80000004 AmoOp.Min false 0x180000000) ≡ changed 0x11223344 0x8000000080000000
+unfolding perform
+operand_of_a_word = refl
+
+a_sum_wraps : did None (Need.Amo 0x80000004 AmoOp.Add false 0xffffffff) ≡ changed 0x11223344 0x1122334380000000
+unfolding perform
+a_sum_wraps = refl
+
+a_wide_sum : did None (Need.Amo 0x80000000 AmoOp.Add true 0xffffffffffffffff) ≡ changed 0x1122334480000000 0x112233447fffffff
+unfolding perform
+a_wide_sum = refl
+
+the_least : did None (Need.Amo 0x80000000 AmoOp.Min true 0xffffffffffffffff) ≡ changed 0x1122334480000000 0xffffffffffffffff
+unfolding perform
+the_least = refl
+
+swapped : did None (Need.Amo 0x80000000 AmoOp.Swap false 0x5566778899aabbcc) ≡ changed 0xffffffff80000000 0x1122334499aabbcc
+unfolding perform
+swapped = refl
+
+-- an LR of 4 bytes holds all 8 of its word
+reserved_half : did None (Need.Lr 0x80000004 false) ≡ only (Answer.LrValue 0x11223344 (record { pa = 0x80000004; wide = false; word = 0x1122334480000000 }))
+unfolding perform
+reserved_half = refl
+
+reserved_word : did None (Need.Lr 0x80000000 true) ≡ only (Answer.LrValue 0x1122334480000000 (record { pa = 0x80000000; wide = true; word = 0x1122334480000000 }))
+unfolding perform
+reserved_word = refl
+
+conditional_store : did (held 0x80000000 false 0x1122334480000000) (Need.Sc 0x80000000 false 7) ≡ record (only (Answer.Sc true)) { entry = Some (write_of first_ram_word 0x1122334400000007 ∷ []) }
+unfolding perform
+conditional_store = refl
+
+hold_of_another_width : did (held 0x80000000 true 0x1122334480000000) (Need.Sc 0x80000000 false 7) ≡ only (Answer.Sc false)
+unfolding perform
+hold_of_another_width = refl
+
+other_half_changed : did (held 0x80000000 false 0x1122334580000000) (Need.Sc 0x80000000 false 7) ≡ only (Answer.Sc false)
+unfolding perform
+other_half_changed = refl
+
+hold_of_the_other_half : did (held 0x80000004 false 0x1122334480000000) (Need.Sc 0x80000000 false 7) ≡ only (Answer.Sc false)
+unfolding perform
+hold_of_the_other_half = refl
+
+no_hold : did None (Need.Sc 0x80000000 true 7) ≡ only (Answer.Sc false)
+unfolding perform
+no_hold = refl
+
+-- at no multiple of the width, whatever the walk would give
+operation_off_eight : did None (Need.Amo 0x80000004 AmoOp.Swap true 7) ≡ faults 6 0x80000004
+unfolding perform
+operation_off_eight = refl
+
+reserve_off_four : lost (Need.Lr 0x80000002 false) ≡ faults 4 0x80000002
+unfolding perform
+reserve_off_four = refl
+
+conditional_off_four : lost (Need.Sc 0x80000001 false 7) ≡ faults 6 0x80000001
+unfolding perform
+conditional_off_four = refl
+
+-- an SC that holds nothing faults as a store does
+conditional_without_page : lost (Need.Sc 0x80000000 false 7) ≡ faults 15 0x80000000
+unfolding perform
+conditional_without_page = refl
+
+reserve_without_page : lost (Need.Lr 0x80000000 false) ≡ faults 13 0x80000000
+unfolding perform
+reserve_without_page = refl
+
+operation_on_a_device : by (Leaf 0xcf 0x10000000 0) None (Need.Amo 0x80000000 AmoOp.Or false 7) ≡ faults 7 0x80000000
+unfolding perform
+operation_on_a_device = refl
+
+reserve_on_a_device : by (Leaf 0xcf 0x10000000 0) None (Need.Lr 0x80000000 false) ≡ faults 5 0x80000000
+unfolding perform
+reserve_on_a_device = refl
+
+conditional_on_a_device : by (Leaf 0xcf 0x10000000 0) None (Need.Sc 0x80000000 false 7) ≡ faults 7 0x80000000
+unfolding perform
+conditional_on_a_device = refl

@@ -108,10 +108,6 @@ sound_small pages kind (Leaf pte page level) few k = reachable_small pages kind 
 
 -- A STEP OF A WALK
 
--- the walk from a table on has this end
-abbrev Down : ℕ → Regime → Kind → Levels → (va levels level table : ℕ) → Walked → Type 0
-Down pages r kind l va levels level table end = levels ≡ suc level → walk_from pages r kind l va levels table ≡ end
-
 down_by : (pages : ℕ) (r : Regime) (kind : Kind) (l : Levels) (va level table : ℕ) (a b c : Bool) → is_ram pages (entry_place table va level) ≡ a
     → is_malformed (l level (entry_place table va level)) ≡ b → is_leaf (l level (entry_place table va level)) ≡ c
     → walk_from pages r kind l va (suc level) table
@@ -121,17 +117,23 @@ down_by pages r kind l va level table a b c e f g =
     ∙ ap (λ x. if not a then AccessFault else (if x then PageFault else (if is_leaf (l level (entry_place table va level)) then at_leaf pages r kind va level (l level (entry_place table va level)) else walk_from pages r kind l va level (ppn (l level (entry_place table va level)) * 4096)))) f
     ∙ ap (λ x. if not a then AccessFault else (if b then PageFault else (if x then at_leaf pages r kind va level (l level (entry_place table va level)) else walk_from pages r kind l va level (ppn (l level (entry_place table va level)) * 4096)))) g
 
-down_leaf : (pages : ℕ) (r : Regime) (kind : Kind) (l : Levels) (va levels level table : ℕ) → is_ram pages (entry_place table va level) ≡ true
-    → is_malformed (l level (entry_place table va level)) ≡ false → is_leaf (l level (entry_place table va level)) ≡ true
-    → Down pages r kind l va levels level table (at_leaf pages r kind va level (l level (entry_place table va level)))
-down_leaf pages r kind l va levels level table e f g same =
-    ap (λ n. walk_from pages r kind l va n table) same ∙ down_by pages r kind l va level table true false true e f g
+-- the word that a walk reads at a place of RAM
+abbrev word_at : List ℕ → ℕ → ℕ
+word_at ram place = slice_index ram ((place - 2 ^ 31) / 8)
 
--- a leaf at a place of RAM
-pub leaf_step : (pages : ℕ) (r : Regime) (kind : Kind) (ram : List ℕ) (va levels table place : ℕ) → place ≡ entry_place table va (levels - 1) → 0 < levels → is_ram pages place ≡ true
-    → is_malformed (slice_index ram ((place - 2 ^ 31) / 8)) ≡ false → is_leaf (slice_index ram ((place - 2 ^ 31) / 8)) ≡ true
-    → walk_from pages r kind (ram_reads ram) va levels table ≡ at_leaf pages r kind va (levels - 1) (slice_index ram ((place - 2 ^ 31) / 8))
-leaf_step pages r kind ram va levels table place at some =
-    subst (λ n. is_ram pages n ≡ true → is_malformed (slice_index ram ((n - 2 ^ 31) / 8)) ≡ false → is_leaf (slice_index ram ((n - 2 ^ 31) / 8)) ≡ true
-    → walk_from pages r kind (ram_reads ram) va levels table ≡ at_leaf pages r kind va (levels - 1) (slice_index ram ((n - 2 ^ 31) / 8)))
-    (sym at) (λ e f g. down_leaf pages r kind (ram_reads ram) va levels (levels - 1) table e f g (omega (arith, some)))
+from_suc : (pages : ℕ) (r : Regime) (kind : Kind) (l : Levels) (va levels level table : ℕ) (a b c : Bool) → levels ≡ suc level → is_ram pages (entry_place table va level) ≡ a
+    → is_malformed (l level (entry_place table va level)) ≡ b → is_leaf (l level (entry_place table va level)) ≡ c
+    → walk_from pages r kind l va levels table
+    ≡ (if not a then AccessFault else (if b then PageFault else (if c then at_leaf pages r kind va level (l level (entry_place table va level)) else walk_from pages r kind l va level (ppn (l level (entry_place table va level)) * 4096))))
+from_suc pages r kind l va levels level table a b c same e f g = ap (λ n. walk_from pages r kind l va n table) same ∙ down_by pages r kind l va level table a b c e f g
+
+-- the walk from a table on, by what stands at a place of RAM
+pub from_step : (pages : ℕ) (r : Regime) (kind : Kind) (ram : List ℕ) (va levels level table place : ℕ) (a b c : Bool) → levels ≡ suc level → place ≡ entry_place table va level
+    → is_ram pages place ≡ a → is_malformed (slice_index ram ((place - 2 ^ 31) / 8)) ≡ b → is_leaf (slice_index ram ((place - 2 ^ 31) / 8)) ≡ c
+    → walk_from pages r kind (ram_reads ram) va levels table
+    ≡ (if not a then AccessFault else (if b then PageFault else (if c then at_leaf pages r kind va level (slice_index ram ((place - 2 ^ 31) / 8)) else walk_from pages r kind (ram_reads ram) va level (ppn (slice_index ram ((place - 2 ^ 31) / 8)) * 4096))))
+from_step pages r kind ram va levels level table place a b c same at =
+    subst (λ n. is_ram pages n ≡ a → is_malformed (word_at ram n) ≡ b → is_leaf (word_at ram n) ≡ c
+    → walk_from pages r kind (ram_reads ram) va levels table
+    ≡ (if not a then AccessFault else (if b then PageFault else (if c then at_leaf pages r kind va level (word_at ram n) else walk_from pages r kind (ram_reads ram) va level (ppn (word_at ram n) * 4096)))))
+    (sym at) (from_suc pages r kind (ram_reads ram) va levels level table a b c same)

@@ -20,8 +20,7 @@ use Rattle.ref_machine.specs.Change.{state_after, part_next, has_part, executed,
 use Rattle.ref_machine.specs.Run.{state_of, is_of, fetches, includes, flushes, last_of, passes, counts, leaves, is_leaf_end, is_due}
 use Rattle.ref_machine.specs.Lawful.{IsLawful, IsRun, IsAllowed, AllowedFor, Flushing, flushing, FlushesDone}
 use Rattle.ref_machine.specs.Now.{is_pending, IsCode, IsNext, exec_now, fetch_now, fetch_end}
-use Rattle.ref_machine.specs.Built.{is_built}
-use Rattle.ref_machine.specs.Plain.{IsPlainRun, turn, over, plain_turn, turn_in, built_turn, instruction, executing, with_stops, stops_behind, flush_events}
+use Rattle.ref_machine.specs.Plain.{IsPlainRun, turn, over, plain_turn, turn_in, instruction, executing, with_stops, stops_behind, flush_events}
 use Rattle.ref_machine.proofs.Harts.{by_set, started_there, pending_there, event_keeps, start_keeps}
 
 -- no hart holds a word, and no stop is due
@@ -330,28 +329,15 @@ start_good u run h g k pending =
       };
     }
 
--- a form that isn't built
-unbuilt_good : (u : Setup) (run : List Event) (h : ℕ) (code : Code) → Good u run → Settled u run → (hart (state_of u run) h).mode ≡ Started
-    → is_pending u (state_of u run) h (memory u (state_of u run)) ≡ false → Found u (state_of u run) h code → is_built u (state_of u run) h code ≡ false → Good u (Stop h Reason.Unbuilt ∷ run)
-unbuilt_good u run h code g k started quiet next unbuilt = record {
-  is_run = (record { there = started_there (state_of u run).harts h started; started = started; holds_none = k.holds_none h; not_due = k.undue h; quiet = quiet; code = code; next = next; unbuilt = unbuilt }, g.is_run);
-  settled = λ e. absurd (reason_stands (state_of u run).reason Reason.Unbuilt e);
-}
-
 -- a turn
 pub turn_good : (u : Setup) (run : List Event) (h : ℕ) (code : Code) → IsNext u (state_of u run) h code → Good u run → Good u (plain_turn u (state_of u run) h code ++ run)
 unfolding plain_turn
 turn_good u run h code next g = by_reason (state_of u run).reason refl
   where
-    by_built : (b : Bool) → is_built u (state_of u run) h code ≡ b → Settled u run → (hart (state_of u run) h).mode ≡ Started
-        → is_pending u (state_of u run) h (memory u (state_of u run)) ≡ false → Good u ((if b then instruction u (state_of u run) h code else Stop h Reason.Unbuilt ∷ []) ++ run)
-    by_built true e k started quiet = instruction_good u run h code g k started (fetch_lawful u run h code k started quiet (found_by u (state_of u run) h code started quiet next))
-    by_built false e k started quiet = unbuilt_good u run h code g k started quiet (found_by u (state_of u run) h code started quiet next) e
-
     by_pending : (b : Bool) → is_pending u (state_of u run) h (memory u (state_of u run)) ≡ b → Settled u run → (hart (state_of u run) h).mode ≡ Started
-        → Good u ((if b then Interrupt h ∷ [] else built_turn u (state_of u run) h code) ++ run)
+        → Good u ((if b then Interrupt h ∷ [] else instruction u (state_of u run) h code) ++ run)
     by_pending true e k started = interrupt_good u run h g k started e
-    by_pending false e k started = by_built (is_built u (state_of u run) h code) refl k started e
+    by_pending false e k started = instruction_good u run h code g k started (fetch_lawful u run h code k started e (found_by u (state_of u run) h code started e next))
 
     by_mode : (m : Mode) → (hart (state_of u run) h).mode ≡ m → Settled u run → Good u (turn_in u (state_of u run) h code m ++ run)
     by_mode Halted e k = g

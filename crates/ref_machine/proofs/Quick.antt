@@ -1,6 +1,6 @@
 -- An access in bare mode within a word of RAM leads there at once.
-use Rattle.std.proofs.Common.{◌≡◌, refl, ℕ, ◌≤◌, ◌<◌, ◌+◌, ◌-◌, ◌*◌, ◌/◌, ◌%◌, ◌^◌, true, false, ◌||◌, length, arith, ap, sym, ◌∙◌}
-use Rattle.std.specs.Prelude.{if◌then◌else◌}
+use Rattle.std.proofs.Common.{◌≡◌, refl, ℕ, ◌≤◌, ◌<◌, ◌+◌, ◌-◌, ◌*◌, ◌/◌, ◌%◌, ◌^◌, true, false, ◌||◌, arith, ap, sym, ◌∙◌, subst, Ok}
+use Rattle.std.specs.Prelude.{if◌then◌else◌, slice_index}
 use Rattle.std.proofs.lemmas.Bool.{le-leb, lt-ltb, le-ltb, ne_eqb}
 use Rattle.rv64_priv.specs.declared.state.Kind.{Kind}
 use Rattle.rv64_priv.specs.declared.state.Regime.{Regime}
@@ -13,7 +13,8 @@ use Rattle.ref_machine.specs.Memory.{One, Two}
 use Rattle.ref_machine.specs.Access.{AtRam, AtDevice, InRam, spot_of, second_va, one_page, two_pages, reach}
 use Rattle.rv64_priv.specs.State.{Arch}
 use Rattle.ref_machine.specs.SharedState.{Shared, ram_reads}
-use Rattle.ref_machine.specs.OneTurn.{IsBareWord, reach_of, walk_end}
+use Rattle.ref_machine.specs.OneTurn.{IsBarePlace, IsBareWord, reach_of, walk_end}
+use Rattle.ref_machine.specs.Translation.{IsWord}
 
 bare_walk : (pages : ℕ) (r : Regime) (kind : Kind) (l : Levels) (va : ℕ) → is_bare r ≡ true → walk_of pages r kind l va ≡ reached pages kind 0xcf (aligned 12 va) 0
 unfolding walk_of
@@ -48,14 +49,27 @@ quick_reach a b kind va width bare low high fits =
     ∙ ap (λ d. one_page width (if d then AtDevice va else AtRam va)) (no_device va low)
     ∙ ap (λ c. InRam (if c then One (ram_word va) (va % 8) width else Two (ram_word va) (ram_word va + 1) (va % 8) width)) (le-leb (va % 8 + width) 8 fits)
 
-pub bare_word : (a : Arch) (b : Shared) (va width index : ℕ) → is_bare (regime a) ≡ true → 2 ^ 31 ≤ va → length b.ram ≡ 512 * b.layout.pages → index ≡ (va - 2 ^ 31) / 8 → index < length b.ram → va % 8 + width ≤ 8
-    → IsBareWord a b va width index
-bare_word a b va width index bare low size at below fits =
-    let high : va < 2 ^ 31 + 4096 * b.layout.pages = omega (arith, low, size, at, below) in
-    let word : InRam (One (ram_word va) (va % 8) width) ≡ InRam (One (first_ram_word + index) (va % 8) width) = ap (λ i. InRam (One (first_ram_word + i) (va % 8) width)) (sym at) in
+pub bare_word : (a : Arch) (b : Shared) (va width index : ℕ) → IsBarePlace a b va index → va % 8 + width ≤ 8 → IsBareWord a b va width index
+bare_word a b va width index place fits =
+    let word : InRam (One (ram_word va) (va % 8) width) ≡ InRam (One (first_ram_word + index) (va % 8) width) = ap (λ i. InRam (One (first_ram_word + i) (va % 8) width)) (sym place.at) in
     record {
-      there = below;
+      there = place.there;
       fits = fits;
-      load = quick_reach a b Kind.Load va width bare low high fits ∙ word;
-      store = quick_reach a b Kind.Store va width bare low high fits ∙ word;
+      load = quick_reach a b Kind.Load va width place.bare place.low place.high fits ∙ word;
+      store = quick_reach a b Kind.Store va width place.bare place.low place.high fits ∙ word;
     }
+
+bare_spot : (a : Arch) (b : Shared) (va index : ℕ) → IsBarePlace a b va index → spot_of Kind.Fetch va (walk_end a b Kind.Fetch va) ≡ AtRam va
+bare_spot a b va index place =
+    let whole : aligned 12 va + va % 4096 ≡ va = omega arith in
+    ap (spot_of Kind.Fetch va) (leaf_there b.layout.pages (regime a) Kind.Fetch (ram_reads b.ram) va place.bare place.low place.high)
+    ∙ ap (λ pa. if is_device pa then AtDevice pa else AtRam pa) whole
+    ∙ ap (λ d. if d then AtDevice va else AtRam va) (no_device va place.low)
+
+-- a fetch there finds half of the word
+pub bare_fetch : (a : Arch) (b : Shared) (va index word : ℕ) → IsBarePlace a b va index → word ≡ slice_index b.ram index / 256 ^ (va % 8) % 2 ^ 32
+    → IsWord b.ram (spot_of Kind.Fetch va (walk_end a b Kind.Fetch va)) (Ok word)
+bare_fetch a b va index word place is =
+    let at = place.at in
+    let same : index ≡ ram_word va - first_ram_word = omega (arith, at) in
+    subst (λ spot. IsWord b.ram spot (Ok word)) (sym (bare_spot a b va index place)) (ap Ok (is ∙ ap (λ i. slice_index b.ram i / 256 ^ (va % 8) % 2 ^ 32) same))

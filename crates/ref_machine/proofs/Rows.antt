@@ -15,7 +15,6 @@ use Rattle.ref_machine.specs.Perform.{perform}
 use Rattle.ref_machine.specs.Change.{executed}
 use Rattle.ref_machine.specs.Lawful.{flushing}
 use Rattle.ref_machine.specs.Now.{exec_now}
-use Rattle.ref_machine.specs.Built.{is_built}
 use Rattle.ref_machine.specs.State.{Setup, State, hart, initial}
 use Rattle.ref_machine.specs.Plain.{executing, instruction, plain_turn, after_turn}
 
@@ -45,13 +44,13 @@ abbrev pub hello_end : State
 hello_end = turns hello_setup hello_codes (initial hello_setup)
 
 pub hello_reason : hello_end.reason ≡ Some Reason.Pass
-unfolding need_of done walk_of sbi_of perform executed flushing exec_now executing instruction plain_turn is_built
+unfolding need_of done walk_of sbi_of perform executed flushing exec_now executing instruction plain_turn
 hello_reason = refl
 
 pub hello_output : hello_end.output ≡ 79 ∷ 75 ∷ 10 ∷ []
-unfolding need_of done walk_of sbi_of perform executed flushing exec_now executing instruction plain_turn is_built
+unfolding need_of done walk_of sbi_of perform executed flushing exec_now executing instruction plain_turn
 hello_output = refl
 
 pub hello_pc : (hart hello_end 0).arch.pc ≡ 0x8000002c
-unfolding need_of done walk_of sbi_of perform executed flushing exec_now executing instruction plain_turn is_built
+unfolding need_of done walk_of sbi_of perform executed flushing exec_now executing instruction plain_turn
 hello_pc = refl

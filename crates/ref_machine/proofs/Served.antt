@@ -7,20 +7,21 @@ use Rattle.rv64_priv.specs.State.{Arch}
 use Rattle.rv64_priv.specs.declared.state.Kind.{Kind}
 use Rattle.rv64_priv.specs.Csr.{regime}
 use Rattle.rv64_priv.specs.Walk.{walk_of, is_ram}
-use Rattle.rv64_exec.specs.Built.{IsBuiltNeed}
+use Rattle.rv64_priv.specs.declared.state.Hold.{Hold}
+use Rattle.rv64_exec.specs.declared.needs.AmoOp.{AmoOp}
 use Rattle.rv64_exec.specs.declared.needs.IpiOp.{IpiOp}
 use Rattle.rv64_exec.specs.declared.needs.Need.{Need}
 use Rattle.rv64_exec.specs.declared.needs.Answer.{Answer}
 use Rattle.step_laws.specs.Words.{first_ram_word, ram_word, ipi_word}
 use Rattle.ref_machine.specs.declared.reason.Reason.{Reason}
-use Rattle.ref_machine.specs.Memory.{Memory, Write, Entry, Span, One, Two, written, write, read, store_entry, part, replaced, write_of}
+use Rattle.ref_machine.specs.Memory.{Memory, Write, Entry, Span, One, Two, written, write, read, store_entry, part, replaced, write_of, first_word}
 use Rattle.ref_machine.specs.Event.{Outcome, Starting}
 use Rattle.step_laws.specs.declared.words.Layout.{Layout}
 use Rattle.ref_machine.specs.State.{Setup, State, Hart, Command, nth}
 use Rattle.ref_machine.specs.Access.{Reach, InRam, OnDevice, Fault, second_va, reach}
 use Rattle.ref_machine.specs.Device.{DeviceStore, Prints, Ends, Ignored, device_value, device_stored}
-use Rattle.ref_machine.specs.Walks.{walked_now, access_of, first_now, second_now, no_walk, levels_of}
-use Rattle.ref_machine.specs.Perform.{loaded, stored, prints, perform, sip_value, ipi_entry, device_loaded, device_done}
+use Rattle.ref_machine.specs.Walks.{Wanted, wanted, walked_now, access_of, first_now, second_now, no_walk, levels_of}
+use Rattle.ref_machine.specs.Perform.{loaded, stored, faults, extended, width_of, is_misaligned, combined, amo_done, reserve, place_of, same_width, holds, conditionally, prints, perform, sip_value, ipi_entry, device_loaded, device_done}
 use Rattle.ref_machine.specs.Change as change
 use Rattle.ref_machine.specs.SharedState.{Shared, ram_memory, ram_reads, ram_with}
 use Rattle.ref_machine.specs.OneTurn.{Effect, effect_of, answers, room, ipi_after, effect_of_need, walk_end, reach_of}
@@ -166,6 +167,62 @@ stored_does u b es va w value (InRam s) k i =
 stored_does u b es va w value (OnDevice pa) k i = device_does u b es va (device_stored pa w value) k
 stored_does u b es va w value (Fault cause tval) k i = ram_does u b es (Answer.Fault cause tval) None [] None k tt
 
+-- ATOMIC ACCESSES
+
+operated_does : (u : Setup) (b : Shared) (es : List Entry) (va : ℕ) (op : AmoOp) (wide : Bool) (value : ℕ) (r : Reach) → ShowsMemory b (written u.image es) → IsReachIn (length b.ram) r
+    → Does u b es (amo_done (written u.image es) va op wide value r) (effect_of b (amo_done (ram_memory b.ram) va op wide value r)) None false
+operated_does u b es va op wide value (OnDevice pa) k i = ram_does u b es (Answer.Fault 7 va) None [] None k tt
+operated_does u b es va op wide value (Fault cause tval) k i = ram_does u b es (Answer.Fault cause tval) None [] None k tt
+operated_does u b es va op wide value (InRam s) k i =
+    let m = written u.image es in
+    let done : ℕ → Entry → Outcome = λ old en. alone (Answer.Value (extended true (width_of wide) old)) (Some en) [] None in
+    let old = read (ram_memory b.ram) s in
+    subst (λ o. Does u b es o (effect_of b (amo_done (ram_memory b.ram) va op wide value (InRam s))) None false)
+    (sym (ap (λ n. done n (store_entry m s (combined op wide n value))) (read_same b.ram m s k.ram i)
+    ∙ ap (done old) (entry_same b.ram m s (combined op wide old value) k.ram i)))
+    (ram_does u b es (Answer.Value (extended true (width_of wide) old)) (Some (store_entry (ram_memory b.ram) s (combined op wide old value))) [] None k
+    (entry_in (length b.ram) (ram_memory b.ram) s (combined op wide old value) i))
+
+first_in : (words : ℕ) (s : Span) → IsSpanIn words s → IsWord words (first_word s)
+first_in words (One word offset width) k = k
+first_in words (Two first second offset width) k = k.0
+
+reserved_does : (u : Setup) (b : Shared) (es : List Entry) (va : ℕ) (wide : Bool) (r : Reach) → ShowsMemory b (written u.image es) → IsReachIn (length b.ram) r
+    → Does u b es (reserve (written u.image es) va wide r) (effect_of b (reserve (ram_memory b.ram) va wide r)) None false
+reserved_does u b es va wide (OnDevice pa) k i = ram_does u b es (Answer.Fault 5 va) None [] None k tt
+reserved_does u b es va wide (Fault cause tval) k i = ram_does u b es (Answer.Fault cause tval) None [] None k tt
+reserved_does u b es va wide (InRam s) k i =
+    let m = written u.image es in
+    let held : ℕ → ℕ → Answer = λ value word. Answer.LrValue (extended true (width_of wide) value) (record { pa = place_of s; wide = wide; word = word }) in
+    subst (λ ans. Does u b es (alone ans None [] None) (effect_of b (reserve (ram_memory b.ram) va wide (InRam s))) None false)
+    (sym (ap (λ n. held n (m (first_word s))) (read_same b.ram m s k.ram i) ∙ ap (held (read (ram_memory b.ram) s)) (word_same b.ram m (first_word s) k.ram (first_in (length b.ram) s i))))
+    (ram_does u b es (held (read (ram_memory b.ram) s) (ram_memory b.ram (first_word s))) None [] None k tt)
+
+holds_same : (ram : List ℕ) (m : Memory) (s : Span) (wide : Bool) (hold : Option Hold) → ShowsRam ram m → IsSpanIn (length ram) s → holds m s wide hold ≡ holds (ram_memory ram) s wide hold
+holds_same ram m s wide None shows k = refl
+holds_same ram m s wide (Some h) shows k = ap (λ n. (h.pa == place_of s) && same_width h.wide wide && (h.word == n)) (word_same ram m (first_word s) shows (first_in (length ram) s k))
+
+conditional_does : (u : Setup) (b : Shared) (es : List Entry) (a : Arch) (va : ℕ) (wide : Bool) (value : ℕ) (r : Reach) → ShowsMemory b (written u.image es) → IsReachIn (length b.ram) r
+    → Does u b es (conditionally (written u.image es) a va wide value r) (effect_of b (conditionally (ram_memory b.ram) a va wide value r)) None false
+conditional_does u b es a va wide value (OnDevice pa) k i = ram_does u b es (Answer.Fault 7 va) None [] None k tt
+conditional_does u b es a va wide value (Fault cause tval) k i = ram_does u b es (Answer.Fault cause tval) None [] None k tt
+conditional_does u b es a va wide value (InRam s) k i =
+    let m = written u.image es in
+    let does : Bool → Entry → Outcome = λ c en. if c then alone (Answer.Sc true) (Some en) [] None else alone (Answer.Sc false) None [] None in
+    subst (λ o. Does u b es o (effect_of b (conditionally (ram_memory b.ram) a va wide value (InRam s))) None false)
+    (sym (ap (λ c. does c (store_entry m s value)) (holds_same b.ram m s wide a.hold k.ram i) ∙ ap (does (holds (ram_memory b.ram) s wide a.hold)) (entry_same b.ram m s value k.ram i)))
+    (go (holds (ram_memory b.ram) s wide a.hold))
+  where
+    en : Entry
+    en = store_entry (ram_memory b.ram) s value
+
+    by : Bool → Outcome
+    by c = if c then alone (Answer.Sc true) (Some en) [] None else alone (Answer.Sc false) None [] None
+
+    go : (c : Bool) → Does u b es (by c) (effect_of b (by c)) None false
+    go true = ram_does u b es (Answer.Sc true) (Some en) [] None k (entry_in (length b.ram) (ram_memory b.ram) s value i)
+    go false = ram_does u b es (Answer.Sc false) None [] None k tt
+
 -- THE IPI WORD
 
 shows_ipi : (ram : List ℕ) (m : Memory) (value : ℕ) → ShowsRam ram m → ShowsRam ram (write m (write_of ipi_word value))
@@ -260,22 +317,59 @@ reach_there u hs h a b es kind va w k =
     (walk_sound b.layout.pages (regime a) kind (ram_reads b.ram) (second_va va)))
 
 -- what a need does that isn't a call
-pub need_does : (u : Setup) (hs : List Hart) (h : ℕ) (a : Arch) (b : Shared) (es : List Entry) (sc : List Command) (n : Need) → ShowsHart u hs h a b es → IsBuiltNeed n → (n ≡ Need.Sbi → ⊥)
+pub need_does : (u : Setup) (hs : List Hart) (h : ℕ) (a : Arch) (b : Shared) (es : List Entry) (sc : List Command) (n : Need) → ShowsHart u hs h a b es → (n ≡ Need.Sbi → ⊥)
     → Does u b es (perform u (state_with hs b es sc) h (first_now u (state_with hs b es sc) h (access_of n)) (second_now u (state_with hs b es sc) h (access_of n)) n) (effect_of_need h a b n) None false
 unfolding perform
-need_does u hs h a b es sc Need.Nothing k built other = ram_does u b es Answer.Nothing None [] None k.memory tt
-need_does u hs h a b es sc (Need.Flush what) k built other = ram_does u b es Answer.Nothing None [] None k.memory tt
-need_does u hs h a b es sc (Need.Trap cause tval) k built other = ram_does u b es (Answer.Fault cause tval) None [] None k.memory tt
-need_does u hs h a b es sc (Need.Load va w sign) k built other =
+need_does u hs h a b es sc Need.Nothing k other = ram_does u b es Answer.Nothing None [] None k.memory tt
+need_does u hs h a b es sc (Need.Flush what) k other = ram_does u b es Answer.Nothing None [] None k.memory tt
+need_does u hs h a b es sc (Need.Trap cause tval) k other = ram_does u b es (Answer.Fault cause tval) None [] None k.memory tt
+need_does u hs h a b es sc (Need.Load va w sign) k other =
     subst (λ x. Does u b es (loaded (written u.image es) va w sign x) (effect_of_need h a b (Need.Load va w sign)) None false) (sym (reach_now u hs h a b es sc Kind.Load va w k))
     (loaded_does u b es va w sign (reach_of a b Kind.Load va w) k.memory (reach_there u hs h a b es Kind.Load va w k))
-need_does u hs h a b es sc (Need.Store va w value) k built other =
+need_does u hs h a b es sc (Need.Store va w value) k other =
     subst (λ x. Does u b es (stored (written u.image es) (room b) va w value x) (effect_of_need h a b (Need.Store va w value)) None false) (sym (reach_now u hs h a b es sc Kind.Store va w k))
     (stored_does u b es va w value (reach_of a b Kind.Store va w) k.memory (reach_there u hs h a b es Kind.Store va w k))
-need_does u hs h a b es sc (Need.Ipi op) k built other =
+need_does u hs h a b es sc (Need.Ipi op) k other =
     subst (λ n. Does u b es (alone (Answer.Value (sip_value n h)) (ipi_entry op n h) [] None) (effect_of_need h a b (Need.Ipi op)) None false) (sym k.memory.ipi)
     (ipi_does u h b es op k.memory)
-need_does u hs h a b es sc Need.Sbi k built other = absurd (other refl)
-need_does u hs h a b es sc (Need.Amo va op wide value) k built other = absurd built
-need_does u hs h a b es sc (Need.Lr va wide) k built other = absurd built
-need_does u hs h a b es sc (Need.Sc va wide value) k built other = absurd built
+need_does u hs h a b es sc Need.Sbi k other = absurd (other refl)
+need_does u hs h a b es sc (Need.Amo va op wide value) k other = go (is_misaligned wide va)
+  where
+    s : State
+    s = state_with hs b es sc
+
+    w : Option Wanted
+    w = wanted Kind.Store va (width_of wide)
+
+    go : (c : Bool) → Does u b es (if c then faults 6 va else amo_done (written u.image es) va op wide value (reach Kind.Store va (width_of wide) (first_now u s h (if c then None else w)) (second_now u s h (if c then None else w)))) (effect_of b (if c then faults 6 va else amo_done (ram_memory b.ram) va op wide value (reach_of a b Kind.Store va (width_of wide)))) None false
+    go true = ram_does u b es (Answer.Fault 6 va) None [] None k.memory tt
+    go false =
+        subst (λ x. Does u b es (amo_done (written u.image es) va op wide value x) (effect_of b (amo_done (ram_memory b.ram) va op wide value (reach_of a b Kind.Store va (width_of wide)))) None false) (sym (reach_now u hs h a b es sc Kind.Store va (width_of wide) k))
+        (operated_does u b es va op wide value (reach_of a b Kind.Store va (width_of wide)) k.memory (reach_there u hs h a b es Kind.Store va (width_of wide) k))
+need_does u hs h a b es sc (Need.Lr va wide) k other = go (is_misaligned wide va)
+  where
+    s : State
+    s = state_with hs b es sc
+
+    w : Option Wanted
+    w = wanted Kind.Load va (width_of wide)
+
+    go : (c : Bool) → Does u b es (if c then faults 4 va else reserve (written u.image es) va wide (reach Kind.Load va (width_of wide) (first_now u s h (if c then None else w)) (second_now u s h (if c then None else w)))) (effect_of b (if c then faults 4 va else reserve (ram_memory b.ram) va wide (reach_of a b Kind.Load va (width_of wide)))) None false
+    go true = ram_does u b es (Answer.Fault 4 va) None [] None k.memory tt
+    go false =
+        subst (λ x. Does u b es (reserve (written u.image es) va wide x) (effect_of b (reserve (ram_memory b.ram) va wide (reach_of a b Kind.Load va (width_of wide)))) None false) (sym (reach_now u hs h a b es sc Kind.Load va (width_of wide) k))
+        (reserved_does u b es va wide (reach_of a b Kind.Load va (width_of wide)) k.memory (reach_there u hs h a b es Kind.Load va (width_of wide) k))
+need_does u hs h a b es sc (Need.Sc va wide value) k other = go (is_misaligned wide va)
+  where
+    s : State
+    s = state_with hs b es sc
+
+    w : Option Wanted
+    w = wanted Kind.Store va (width_of wide)
+
+    go : (c : Bool) → Does u b es (if c then faults 6 va else conditionally (written u.image es) (nth hs h).arch va wide value (reach Kind.Store va (width_of wide) (first_now u s h (if c then None else w)) (second_now u s h (if c then None else w)))) (effect_of b (if c then faults 6 va else conditionally (ram_memory b.ram) a va wide value (reach_of a b Kind.Store va (width_of wide)))) None false
+    go true = ram_does u b es (Answer.Fault 6 va) None [] None k.memory tt
+    go false =
+        subst (λ x. Does u b es (conditionally (written u.image es) x va wide value (reach Kind.Store va (width_of wide) (first_now u s h w) (second_now u s h w))) (effect_of b (conditionally (ram_memory b.ram) a va wide value (reach_of a b Kind.Store va (width_of wide)))) None false) (sym k.arch)
+        (subst (λ x. Does u b es (conditionally (written u.image es) a va wide value x) (effect_of b (conditionally (ram_memory b.ram) a va wide value (reach_of a b Kind.Store va (width_of wide)))) None false) (sym (reach_now u hs h a b es sc Kind.Store va (width_of wide) k))
+        (conditional_does u b es a va wide value (reach_of a b Kind.Store va (width_of wide)) k.memory (reach_there u hs h a b es Kind.Store va (width_of wide) k)))

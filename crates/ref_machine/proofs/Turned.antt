@@ -1,5 +1,5 @@
 -- A turn of the machine on one thread is a turn of the plain run, whatever it finds.
-use Rattle.std.proofs.Common.{◌≡◌, refl, ℕ, ◌<◌, ◌+◌, ◌*◌, ◌/◌, ◌%◌, ◌^◌, List, [], map, length, length-set, Some, None, Option, true, false, Bool, not, ◌&&◌, ◌||◌, ap, sym, ◌∙◌, subst}
+use Rattle.std.proofs.Common.{◌≡◌, refl, ℕ, ◌<◌, ◌+◌, ◌*◌, ◌/◌, ◌%◌, ◌^◌, List, [], map, length, length-set, Some, None, Option, true, false, Bool, not, ◌&&◌, ap, sym, ◌∙◌, subst}
 use Rattle.std.specs.Prelude.{MatchBool, IsSome, ◌==◌, is_some, if◌then◌else◌, slice_set}
 use Rattle.rv64_decode.specs.declared.instruction.Instr.{Instr}
 use Rattle.rv64_decode.specs.Encoding.{Decodes}
@@ -23,7 +23,6 @@ use Rattle.ref_machine.specs.Walks.{walked_now}
 use Rattle.ref_machine.specs.Change.{first_reason}
 use Rattle.ref_machine.specs.Run.{is_leaf_end}
 use Rattle.ref_machine.specs.Now.{IsCode, IsNext, is_pending, fetch_end, fetches_now}
-use Rattle.ref_machine.specs.Built.{is_built, is_instr_built}
 use Rattle.ref_machine.specs.Plain.{plain_turn, turn_in, states_after, after_turn}
 use Rattle.ref_machine.specs.Slots.{begun}
 use Rattle.ref_machine.specs.SharedState.{ram_memory, ram_reads}
@@ -35,7 +34,7 @@ use Rattle.ref_machine.specs.Translation.{IsSpotIn}
 use Rattle.ref_machine.proofs.Fresh.{walk_sound}
 use Rattle.ref_machine.proofs.Reaches.{IsWord, spot_in, word_in}
 use Rattle.ref_machine.proofs.Served.{ShowsHart, walk_now, word_same}
-use Rattle.ref_machine.proofs.Turns.{slot_shown, taken, begun_state, interrupt_state, quiet_state, built_state, fault_state, no_leaf}
+use Rattle.ref_machine.proofs.Turns.{slot_shown, taken, begun_state, interrupt_state, quiet_state, fault_state, no_leaf}
 use Rattle.ref_machine.proofs.Words.{word_turn}
 
 -- WHAT A TURN FINDS
@@ -164,7 +163,6 @@ first_limit old h count limit limit' none same =
 
 fault_shown : (u : Setup) (p : PlainState) (s : State) (k : Shows u p s) (h : ℕ) (code : Code) (cause tval : ℕ) → h < length p.slots → p.shared.reason ≡ None → (slot p h).mode ≡ Started → pends p h ≡ false
     → spot p h ≡ Faults cause tval → Shows u (after_done p h (faulted h (slot p h) p.shared cause tval)) (after_turn u h code s)
-unfolding is_built
 fault_shown u p s k h code cause tval lt going mode quiet at =
     let es = k.entries in
     let sc = k.script in
@@ -179,7 +177,6 @@ fault_shown u p s k h code cause tval lt going mode quiet at =
       state = ap (after_turn u h code) k.state
           ∙ taken u p es sc h code Started going mode
           ∙ quiet_state u x h code (pending_same u p s k h ∙ quiet)
-          ∙ built_state u x h code (ap (λ b. not b || is_instr_built code.instr) leaf)
           ∙ fault_state u p es sc h code cause tval lt here
           ∙ ap made (first_limit p.shared.reason h ((slot p h).count + 1) p.shared.limit u.limit going k.limit);
       there = length-set p.slots h t ∙ k.there;

@@ -23,9 +23,8 @@ use Rattle.ref_machine.specs.Change as change
 use Rattle.ref_machine.specs.Change.{state_after, executed, first_reason, counted}
 use Rattle.ref_machine.specs.Run.{is_leaf_end}
 use Rattle.ref_machine.specs.Now.{is_pending, fetch_end, fetch_now, exec_now, outcome_now}
-use Rattle.ref_machine.specs.Built.{is_built}
 use Rattle.ref_machine.specs.Lawful.{Flushing, flushing}
-use Rattle.ref_machine.specs.Plain.{plain_turn, turn_in, running_turn, built_turn, instruction, executing, with_stops, stops_behind, flush_events, states_after, after_turn}
+use Rattle.ref_machine.specs.Plain.{plain_turn, turn_in, running_turn, instruction, executing, with_stops, stops_behind, flush_events, states_after, after_turn}
 use Rattle.ref_machine.specs.Slots as slots
 use Rattle.ref_machine.specs.Slots.{new_slot, slot_at, begun}
 use Rattle.ref_machine.specs.SharedState.{Shared}
@@ -76,23 +75,12 @@ pub interrupt_state : (u : Setup) (p : PlainState) (es : List Entry) (sc : List 
     → states_after (running_turn u (shown p es sc) h code) (shown p es sc) ≡ shown (record p { slots = slice_set p.slots h (record (slot p h) { arch = trapped (slot p h).arch software_interrupt 0 }) }) es sc
 interrupt_state u p es sc h code pending =
     let s = shown p es sc in
-    ap (λ b. states_after (if b then Event.Interrupt h ∷ [] else built_turn u s h code) s) pending
+    ap (λ b. states_after (if b then Event.Interrupt h ∷ [] else instruction u s h code) s) pending
     ∙ ap (λ (hs : List Hart). record { entries = es; harts = hs; output = p.shared.console; reason = p.shared.reason; script = sc })
     (set_shown p.slots h (λ t. record t { arch = trapped t.arch software_interrupt 0 }) (record (slot p h) { arch = trapped (slot p h).arch software_interrupt 0 }) refl)
 
-pub quiet_state : (u : Setup) (s : State) (h : ℕ) (code : Code) → is_pending u s h (memory u s) ≡ false → states_after (running_turn u s h code) s ≡ states_after (built_turn u s h code) s
-quiet_state u s h code quiet = ap (λ b. states_after (if b then Event.Interrupt h ∷ [] else built_turn u s h code) s) quiet
-
--- of a form that isn't built
-pub unbuilt_state : (u : Setup) (p : PlainState) (es : List Entry) (sc : List Command) (h : ℕ) (code : Code) → p.shared.reason ≡ None → is_built u (shown p es sc) h code ≡ false
-    → states_after (built_turn u (shown p es sc) h code) (shown p es sc) ≡ shown (record p { shared = record p.shared { reason = Some Reason.Unbuilt } }) es sc
-unbuilt_state u p es sc h code none built =
-    let s = shown p es sc in
-    ap (λ b. states_after (if b then instruction u s h code else Stop h Reason.Unbuilt ∷ []) s) built
-    ∙ ap (λ r. record s { reason = first_reason r (Some Reason.Unbuilt) }) none
-
-pub built_state : (u : Setup) (s : State) (h : ℕ) (code : Code) → is_built u s h code ≡ true → states_after (built_turn u s h code) s ≡ states_after (instruction u s h code) s
-built_state u s h code built = ap (λ b. states_after (if b then instruction u s h code else Stop h Reason.Unbuilt ∷ []) s) built
+pub quiet_state : (u : Setup) (s : State) (h : ℕ) (code : Code) → is_pending u s h (memory u s) ≡ false → states_after (running_turn u s h code) s ≡ states_after (instruction u s h code) s
+quiet_state u s h code quiet = ap (λ b. states_after (if b then Event.Interrupt h ∷ [] else instruction u s h code) s) quiet
 
 -- EVENTS IN A ROW
 

@@ -1,16 +1,13 @@
 -- What a word's turn leaves is shown.
-use Rattle.std.proofs.Common.{◌≡◌, refl, ℕ, ◌<◌, ◌+◌, ◌++◌, List, [], map, length, Some, None, Option, true, false, Bool, not, ◌||◌, ap, sym, ◌∙◌, subst, option_to_list}
+use Rattle.std.proofs.Common.{◌≡◌, refl, ℕ, ◌<◌, ◌+◌, ◌++◌, List, [], map, length, Some, None, Option, true, false, Bool, ap, sym, ◌∙◌, subst, option_to_list}
 use Rattle.std.specs.Prelude.{◌==◌, if◌then◌else◌, slice_set}
-use Rattle.std.proofs.lemmas.List.{set-get_or}
 use Rattle.rv64_decode.specs.declared.instruction.Instr.{Instr}
 use Rattle.rv64_exec.specs.Code.{Code}
-use Rattle.rv64_exec.specs.Built as exec
 use Rattle.rv64_exec.specs.declared.needs.Need.{Need}
 use Rattle.rv64_exec.specs.declared.needs.Answer.{Answer}
 use Rattle.rv64_exec.specs.Plan.{need_of, need_of_code}
-use Rattle.rv64_exec.proofs.Kept.{built_need}
 use Rattle.ref_machine.specs.declared.reason.Reason.{Reason}
-use Rattle.ref_machine.specs.declared.hart.Mode.TheVariants.{Started, Halted}
+use Rattle.ref_machine.specs.declared.hart.Mode.TheVariants.{Started}
 use Rattle.ref_machine.specs.declared.hart.HartSlot.{HartSlot}
 use Rattle.ref_machine.specs.Memory.{Entry}
 use Rattle.ref_machine.specs.Event.{Starting}
@@ -20,18 +17,17 @@ use Rattle.ref_machine.specs.Perform.{perform}
 use Rattle.ref_machine.specs.Change.{first_reason}
 use Rattle.ref_machine.specs.Run.{is_leaf_end}
 use Rattle.ref_machine.specs.Now.{is_pending, fetch_end, outcome_now}
-use Rattle.ref_machine.specs.Built.{is_built, is_instr_built}
 use Rattle.ref_machine.specs.Plain.{after_turn}
-use Rattle.ref_machine.specs.Slots.{new_slot, slot_at, modes_of}
+use Rattle.ref_machine.specs.Slots.{slot_at, modes_of}
 use Rattle.ref_machine.specs.SharedState.{Shared}
 use Rattle.ref_machine.specs.PlainState.{PlainState, slot}
-use Rattle.ref_machine.specs.OneTurn.{Effect, answers, effect_of_need, effect_of_call, call_of, limited, last_stopped, after_need, after_word, after_done, unbuilt}
+use Rattle.ref_machine.specs.OneTurn.{Effect, answers, effect_of_need, effect_of_call, call_of, limited, last_stopped, after_need, after_word, after_done}
 use Rattle.ref_machine.specs.Shows.{Shows, resting, shown}
 use Rattle.ref_machine.proofs.Harts.{kept}
 use Rattle.ref_machine.proofs.Served.{Does, ShowsHart, state_with, need_does, ram_does}
 use Rattle.ref_machine.proofs.Called.{call_does}
 use Rattle.ref_machine.proofs.KeptSlots.{called_length}
-use Rattle.ref_machine.proofs.Turns.{slot_shown, taken, quiet_state, built_state, unbuilt_state, leaf_state, held_in, held_hart, slot_done, slots_done, done_state}
+use Rattle.ref_machine.proofs.Turns.{slot_shown, taken, quiet_state, leaf_state, held_in, held_hart, slot_done, slots_done, done_state}
 
 -- the machine behind a word with this effect
 abbrev pub after_code : PlainState → (h : ℕ) → Code → Effect → Option Starting → (stops : Bool) → PlainState
@@ -59,11 +55,10 @@ reason_same old re all h count limit limit' none same =
     ∙ ap (λ r. first_reason (first_reason r all) (if count == limit' then Some (Reason.Limit h) else None)) (first_none re)
     ∙ ap (λ n. first_reason (first_reason re all) (if count == n then Some (Reason.Limit h) else None)) (sym same)
 
-pub done_turn : (u : Setup) (p : PlainState) (s : State) (k : Shows u p s) (h : ℕ) (code : Code) (e : Effect) (st : Option Starting) (stops : Bool) → IsFound u p s k h → is_instr_built code.instr ≡ true
+pub done_turn : (u : Setup) (p : PlainState) (s : State) (k : Shows u p s) (h : ℕ) (code : Code) (e : Effect) (st : Option Starting) (stops : Bool) → IsFound u p s k h
     → Does u p.shared k.entries (outcome_now u (state_with (held_in p.slots h code) p.shared k.entries k.script) h) e st stops
     → Shows u (after_code p h code e st stops) (after_turn u h code s)
-unfolding is_built
-done_turn u p s k h code e st stops f built does =
+done_turn u p s k h code e st stops f does =
     let es = k.entries in
     let sc = k.script in
     let ts = slots_done p.slots h code e.answer stops st in
@@ -75,7 +70,6 @@ done_turn u p s k h code e st stops f built does =
       state = ap (after_turn u h code) k.state
           ∙ taken u p es sc h code Started f.going f.started
           ∙ quiet_state u (shown p es sc) h code f.quiet
-          ∙ built_state u (shown p es sc) h code (ap (λ b. not b || is_instr_built code.instr) f.leaf ∙ built)
           ∙ leaf_state u p es sc h code f.leaf
           ∙ done_state u p.slots p.shared es sc h code e.answer does.entry does.bytes e.reason st stops f.there does.is_outcome
           ∙ ap (λ o. made o (first_reason (first_reason (first_reason p.shared.reason e.reason) all) (if (slot p h).count + 1 == u.limit then Some (Reason.Limit h) else None))) does.console
@@ -86,23 +80,6 @@ done_turn u p s k h code e st stops f built does =
       memory = record { ram = does.memory.ram; ipi = does.memory.ipi };
       limit = does.limit ∙ k.limit;
     }
-
-no_turn : (u : Setup) (p : PlainState) (s : State) (k : Shows u p s) (h : ℕ) (code : Code) → IsFound u p s k h → is_instr_built code.instr ≡ false
-    → Shows u (record p { shared = record p.shared { reason = Some Reason.Unbuilt } }) (after_turn u h code s)
-unfolding is_built
-no_turn u p s k h code f built = record {
-  entries = k.entries;
-  script = k.script;
-  state = ap (after_turn u h code) k.state
-      ∙ taken u p k.entries k.script h code Started f.going f.started
-      ∙ quiet_state u (shown p k.entries k.script) h code f.quiet
-      ∙ unbuilt_state u p k.entries k.script h code f.going (ap (λ b. not b || is_instr_built code.instr) f.leaf ∙ built);
-  there = k.there;
-  layout = k.layout;
-  size = k.size;
-  memory = record { ram = k.memory.ram; ipi = k.memory.ipi };
-  limit = k.limit;
-}
 
 -- THE HART THAT HOLDS THE WORD
 
@@ -125,36 +102,36 @@ outcome_is u ts b es sc h code lt n is =
     ap (λ x. perform u s h (first_now u s h (access_of x)) (second_now u s h (access_of x)) x) held
 
 -- a need that isn't a call
-alone_turn : (u : Setup) (p : PlainState) (s : State) (k : Shows u p s) (h : ℕ) (word : ℕ) (i : Instr) → IsFound u p s k h → exec.is_built i ≡ true → (n : Need) → need_of (slot p h).arch i ≡ n → exec.IsBuiltNeed n → (n ≡ Need.Sbi → ⊥)
+alone_turn : (u : Setup) (p : PlainState) (s : State) (k : Shows u p s) (h : ℕ) (word : ℕ) (i : Instr) → IsFound u p s k h → (n : Need) → need_of (slot p h).arch i ≡ n → (n ≡ Need.Sbi → ⊥)
     → Shows u (after_code p h (record { word = word; instr = Some i }) (effect_of_need h (slot p h).arch p.shared n) None false) (after_turn u h (record { word = word; instr = Some i }) s)
-alone_turn u p s k h word i f built n is form other =
+alone_turn u p s k h word i f n is other =
     let code : Code = record { word = word; instr = Some i } in
-    done_turn u p s k h code (effect_of_need h (slot p h).arch p.shared n) None false f built
+    done_turn u p s k h code (effect_of_need h (slot p h).arch p.shared n) None false f
     (subst (λ o. Does u p.shared k.entries o (effect_of_need h (slot p h).arch p.shared n) None false) (sym (outcome_is u p.slots p.shared k.entries k.script h code f.there n is))
-    (need_does u (held_in p.slots h code) h (slot p h).arch p.shared k.entries k.script n (held_shows u p s k h code f.there) form other))
+    (need_does u (held_in p.slots h code) h (slot p h).arch p.shared k.entries k.script n (held_shows u p s k h code f.there) other))
 
 -- and one that is
-call_turn : (u : Setup) (p : PlainState) (s : State) (k : Shows u p s) (h : ℕ) (word : ℕ) (i : Instr) → IsFound u p s k h → exec.is_built i ≡ true → need_of (slot p h).arch i ≡ Need.Sbi
+call_turn : (u : Setup) (p : PlainState) (s : State) (k : Shows u p s) (h : ℕ) (word : ℕ) (i : Instr) → IsFound u p s k h → need_of (slot p h).arch i ≡ Need.Sbi
     → Shows u (after_done p h (after_need h (slot p h) p.shared i Need.Sbi)) (after_turn u h (record { word = word; instr = Some i }) s)
-call_turn u p s k h word i f built is =
+call_turn u p s k h word i f is =
     let code : Code = record { word = word; instr = Some i } in
     let e = effect_of_call p.shared (call_of p.slots p.shared h) in
-    done_turn u p s k h code e e.starts e.stops f built
+    done_turn u p s k h code e e.starts e.stops f
     (subst (λ o. Does u p.shared k.entries o e e.starts e.stops) (sym (outcome_is u p.slots p.shared k.entries k.script h code f.there Need.Sbi is))
     (call_does u (held_in p.slots h code) p.slots h p.shared k.entries k.script (held_shows u p s k h code f.there) (held_modes p.slots h code)))
 
-need_turn : (u : Setup) (p : PlainState) (s : State) (k : Shows u p s) (h : ℕ) (word : ℕ) (i : Instr) → IsFound u p s k h → exec.is_built i ≡ true → (n : Need) → need_of (slot p h).arch i ≡ n → exec.IsBuiltNeed n
+need_turn : (u : Setup) (p : PlainState) (s : State) (k : Shows u p s) (h : ℕ) (word : ℕ) (i : Instr) → IsFound u p s k h → (n : Need) → need_of (slot p h).arch i ≡ n
     → Shows u (after_done p h (after_need h (slot p h) p.shared i n)) (after_turn u h (record { word = word; instr = Some i }) s)
-need_turn u p s k h word i f built Need.Sbi is form = call_turn u p s k h word i f built is
-need_turn u p s k h word i f built Need.Nothing is form = alone_turn u p s k h word i f built Need.Nothing is form (λ e. cc)
-need_turn u p s k h word i f built (Need.Flush what) is form = alone_turn u p s k h word i f built (Need.Flush what) is form (λ e. cc)
-need_turn u p s k h word i f built (Need.Trap cause tval) is form = alone_turn u p s k h word i f built (Need.Trap cause tval) is form (λ e. cc)
-need_turn u p s k h word i f built (Need.Load va w sign) is form = alone_turn u p s k h word i f built (Need.Load va w sign) is form (λ e. cc)
-need_turn u p s k h word i f built (Need.Store va w value) is form = alone_turn u p s k h word i f built (Need.Store va w value) is form (λ e. cc)
-need_turn u p s k h word i f built (Need.Ipi op) is form = alone_turn u p s k h word i f built (Need.Ipi op) is form (λ e. cc)
-need_turn u p s k h word i f built (Need.Amo va op wide value) is form = absurd form
-need_turn u p s k h word i f built (Need.Lr va wide) is form = absurd form
-need_turn u p s k h word i f built (Need.Sc va wide value) is form = absurd form
+need_turn u p s k h word i f Need.Sbi is = call_turn u p s k h word i f is
+need_turn u p s k h word i f Need.Nothing is = alone_turn u p s k h word i f Need.Nothing is (λ e. cc)
+need_turn u p s k h word i f (Need.Flush what) is = alone_turn u p s k h word i f (Need.Flush what) is (λ e. cc)
+need_turn u p s k h word i f (Need.Trap cause tval) is = alone_turn u p s k h word i f (Need.Trap cause tval) is (λ e. cc)
+need_turn u p s k h word i f (Need.Load va w sign) is = alone_turn u p s k h word i f (Need.Load va w sign) is (λ e. cc)
+need_turn u p s k h word i f (Need.Store va w value) is = alone_turn u p s k h word i f (Need.Store va w value) is (λ e. cc)
+need_turn u p s k h word i f (Need.Ipi op) is = alone_turn u p s k h word i f (Need.Ipi op) is (λ e. cc)
+need_turn u p s k h word i f (Need.Amo va op wide value) is = alone_turn u p s k h word i f (Need.Amo va op wide value) is (λ e. cc)
+need_turn u p s k h word i f (Need.Lr va wide) is = alone_turn u p s k h word i f (Need.Lr va wide) is (λ e. cc)
+need_turn u p s k h word i f (Need.Sc va wide value) is = alone_turn u p s k h word i f (Need.Sc va wide value) is (λ e. cc)
 
 -- the word that was found
 pub word_turn : (u : Setup) (p : PlainState) (s : State) (k : Shows u p s) (h : ℕ) (word : ℕ) (found : Option Instr) → IsFound u p s k h
@@ -162,15 +139,7 @@ pub word_turn : (u : Setup) (p : PlainState) (s : State) (k : Shows u p s) (h : 
 unfolding perform
 word_turn u p s k h word None f =
     let code : Code = record { word = word; instr = None } in
-    done_turn u p s k h code (answers p.shared (Answer.Fault 2 word)) None false f refl
+    done_turn u p s k h code (answers p.shared (Answer.Fault 2 word)) None false f
     (subst (λ o. Does u p.shared k.entries o (answers p.shared (Answer.Fault 2 word)) None false) (sym (outcome_is u p.slots p.shared k.entries k.script h code f.there (Need.Trap 2 word) refl))
     (ram_does u p.shared k.entries (Answer.Fault 2 word) None [] None k.memory tt))
-word_turn u p s k h word (Some i) f = go (exec.is_built i) refl
-  where
-    go : (b : Bool) → exec.is_built i ≡ b
-        → Shows u (after_done p h (if b then after_need h (slot p h) p.shared i (need_of (slot p h).arch i) else unbuilt (slot p h) p.shared)) (after_turn u h (record { word = word; instr = Some i }) s)
-    go false e =
-        subst (λ (ts : List HartSlot). Shows u (record { slots = ts; shared = record p.shared { reason = Some Reason.Unbuilt } }) (after_turn u h (record { word = word; instr = Some i }) s))
-        (sym (set-get_or p.slots h (new_slot Halted 0)))
-        (no_turn u p s k h (record { word = word; instr = Some i }) f e)
-    go true e = need_turn u p s k h word i f e (need_of (slot p h).arch i) refl (built_need (slot p h).arch i e)
+word_turn u p s k h word (Some i) f = need_turn u p s k h word i f (need_of (slot p h).arch i) refl

@@ -1,14 +1,14 @@
 -- What the parts of a turn give as the machine on one thread keeps them.
-use Rattle.std.specs.Prelude.{◌≡◌, ℕ, ◌<◌, Bool, true, false, IsTrue, IsNone, Option, Some, None, Result, Ok, Err}
+use Rattle.std.specs.Prelude.{◌≡◌, ℕ, ◌<◌, Bool, true, false, IsNone, Option, Some, None, Result, Ok, Err}
 use Rattle.rv64_decode.specs.declared.instruction.Instr.{Instr}
 use Rattle.rv64_decode.specs.Encoding.{IsInRange}
 use Rattle.rv64_priv.specs.State.{Arch}
 use Rattle.rv64_exec.specs.declared.needs.Answer.{Answer}
 use Rattle.rv64_exec.specs.declared.needs.Need.{Need}
-use Rattle.rv64_exec.specs.Built.{is_built}
 use Rattle.rv64_exec.specs.Plan.{need_of}
 use Rattle.ref_machine.specs.declared.reason.Reason.{Reason}
 use Rattle.ref_machine.specs.declared.translation.Fault.{Fault}
+use Rattle.ref_machine.specs.declared.atomics.Reserved.{Reserved}
 use Rattle.ref_machine.specs.declared.hart.HartSlot.{HartSlot}
 use Rattle.ref_machine.specs.declared.calls.Call.{Call as Kept}
 use Rattle.ref_machine.specs.declared.calling.Served.{Served}
@@ -33,15 +33,23 @@ abbrev pub store_reason : Result (Option Reason) Fault → Option Reason
 store_reason (Ok reason) = reason
 store_reason (Err fault) = None
 
+-- an LR's number and hold, and whether an SC stored
+abbrev pub reserve_answer : Result Reserved Fault → Answer
+reserve_answer (Ok reserved) = Answer.LrValue reserved.value reserved.hold
+reserve_answer (Err fault) = fault_answer fault
+
+abbrev pub conditional_answer : Result Bool Fault → Answer
+conditional_answer (Ok stored) = Answer.Sc stored
+conditional_answer (Err fault) = fault_answer fault
+
 -- the call that a hart came to, or what its turn did
 abbrev pub done_of : Option Instr → HartSlot → Shared → Done
 done_of None t b = Alone t b
 done_of (Some i) t b = Calls i
 
--- a built instruction that calls the SBI
+-- an instruction that calls the SBI
 pub record IsCall (a : Arch) (i : Instr) : Type 0 where
   pub range : IsInRange i
-  pub built : IsTrue (is_built i)
   pub need : need_of a i ≡ Need.Sbi
 
 -- the hart and what is shared are as done

@@ -17,8 +17,7 @@ use Rattle.ref_machine.specs.Access.{crosses_page, second_va, spot_of, is_at_ram
 use Rattle.ref_machine.specs.Sbi.{Call, Fences, sbi_of, bytes_from}
 use Rattle.ref_machine.specs.Walks.{Wanted, walked, need, access_of}
 use Rattle.ref_machine.specs.Perform.{perform}
-use Rattle.ref_machine.specs.Now.{IsCode, is_pending, fetch_end}
-use Rattle.ref_machine.specs.Built.{is_built}
+use Rattle.ref_machine.specs.Now.{IsCode, is_pending}
 
 -- The end of a walk is that of reads in order, of moments up to now. For a leaf they are since the hart's last flush
 -- that covers it, for a fault since the hart's last event.
@@ -108,24 +107,11 @@ pub record IsStart (u : Setup) (run : List Event) (s : State) (h : ℕ) : Type 0
 abbrev pub NextLine : State → Command → Type 0
 NextLine s line = (more : List Command) × (s.script ≡ line ∷ more)
 
--- the hart's next word has a form that isn't built
-pub record IsUnbuilt (u : Setup) (run : List Event) (s : State) (h : ℕ) : Type 0 where
-  pub there : h < length s.harts
-  pub started : (hart s h).mode ≡ Started
-  pub holds_none : (hart s h).held ≡ None
-  pub not_due : is_due u run s h ≡ false
-  pub quiet : is_pending u s h (memory u s) ≡ false
-  pub code : Code
-  pub next : IsCode (memory u s) (hart s h).arch.pc (fetch_end u s h) code
-  pub unbuilt : is_built u s h code ≡ false
-
--- a hart's last event brought its count to the limit, or stopped the last of the harts; the script says stop; the hart
--- comes to a form that isn't built
+-- a hart's last event brought its count to the limit, or stopped the last of the harts; the script says stop
 abbrev pub IsStop : Setup → List Event → State → ℕ → Reason → Type 0
 IsStop u run s by (Reason.Limit h) = (h ≡ by) × (is_due u run s by ≡ true)
 IsStop u run s by Reason.AllStopped = IsTrue (passes leaves (last_of by run)) × IsTrue (all_halted s)
 IsStop u run s by Reason.Stopped = (by ≡ monitor) × NextLine s StopAll
-IsStop u run s by Reason.Unbuilt = IsUnbuilt u run s by
 IsStop u run s by _ = ⊥
 
 -- an event is lawful in a state that a run leaves

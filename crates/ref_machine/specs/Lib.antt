@@ -10,7 +10,6 @@ pub mod Perform
 pub mod Change
 pub mod Run
 pub mod Now
-pub mod Built
 pub mod Lawful
 pub mod Plain
 pub mod Image
@@ -23,6 +22,7 @@ pub mod PlainState
 pub mod OneTurn
 pub mod Devices
 pub mod Translation
+pub mod Atomics
 pub mod Given
 pub mod Shows
 pub mod Ran

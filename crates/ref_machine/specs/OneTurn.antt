@@ -1,19 +1,20 @@
 -- What one turn of a hart makes of what the machine on one thread keeps.
-use Rattle.std.specs.Prelude.{◌≡◌, ℕ, ◌+◌, ◌-◌, ◌%◌, ◌^◌, ◌≤◌, ◌<◌, Bool, false, ◌&&◌, ◌==◌, if◌then◌else◌, MatchBool, List, ◌∷◌, length, Option, Some, None, slice_set, bit_and, bit_or}
+use Rattle.std.specs.Prelude.{◌≡◌, ℕ, ◌+◌, ◌-◌, ◌*◌, ◌/◌, ◌%◌, ◌^◌, ◌≤◌, ◌<◌, Bool, true, false, ◌&&◌, ◌==◌, if◌then◌else◌, MatchBool, List, ◌∷◌, length, Option, Some, None, slice_set, bit_and, bit_or}
 use Rattle.rv64_decode.specs.declared.instruction.Instr.{Instr}
 use Rattle.rv64_decode.specs.Encoding.{Decodes}
 use Rattle.rv64_priv.specs.State.{Arch}
 use Rattle.rv64_priv.specs.declared.state.Kind.{Kind}
 use Rattle.rv64_priv.specs.Bits.{is_set}
 use Rattle.rv64_priv.specs.Csr.{regime}
+use Rattle.rv64_priv.specs.Pte.{is_bare}
 use Rattle.rv64_priv.specs.Trap.{trapped, takes_interrupts, software_interrupt}
 use Rattle.rv64_priv.specs.Walk.{Walked, walk_of}
+use Rattle.rv64_exec.specs.declared.needs.AmoOp.{AmoOp}
 use Rattle.rv64_exec.specs.declared.needs.IpiOp.{IpiOp}
 use Rattle.rv64_exec.specs.declared.needs.Need.{Need}
 use Rattle.rv64_exec.specs.declared.needs.Answer.{Answer}
 use Rattle.rv64_exec.specs.Plan.{need_of}
 use Rattle.rv64_exec.specs.Finish.{after}
-use Rattle.rv64_exec.specs.Built.{is_built}
 use Rattle.step_laws.specs.Words.{first_ram_word}
 use Rattle.ref_machine.specs.declared.reason.Reason.{Reason}
 use Rattle.ref_machine.specs.declared.hart.Mode.{Mode}
@@ -23,7 +24,7 @@ use Rattle.ref_machine.specs.Memory.{Entry, One}
 use Rattle.ref_machine.specs.Event.{Outcome, Starting}
 use Rattle.ref_machine.specs.Access.{Spot, AtRam, AtDevice, Faults, Reach, InRam, spot_of, second_va, reach, code_word}
 use Rattle.ref_machine.specs.Sbi.{Call, sbi_of}
-use Rattle.ref_machine.specs.Perform.{console_places, loaded, stored, sip_value, called}
+use Rattle.ref_machine.specs.Perform.{console_places, faults, loaded, stored, width_of, is_misaligned, amo_done, reserve, conditionally, sip_value, called}
 use Rattle.ref_machine.specs.Change as change
 use Rattle.ref_machine.specs.Change.{first_reason}
 use Rattle.ref_machine.specs.Slots.{slot_at, modes_of, all_halted, begun, with_start}
@@ -36,6 +37,14 @@ walk_end a b kind va = walk_of b.layout.pages (regime a) kind (ram_reads b.ram) 
 
 abbrev pub reach_of : Arch → Shared → Kind → (va width : ℕ) → Reach
 reach_of a b kind va width = reach kind va width (walk_end a b kind va) (walk_end a b kind (second_va va))
+
+-- an address of RAM, where there is no translation, and the index of its word
+pub record IsBarePlace (a : Arch) (b : Shared) (va index : ℕ) : Type 0 where
+  pub bare : is_bare (regime a) ≡ true
+  pub low : 2 ^ 31 ≤ va
+  pub high : va < 2 ^ 31 + 4096 * b.layout.pages
+  pub at : index ≡ (va - 2 ^ 31) / 8
+  pub there : index < length b.ram
 
 -- an access that leads to this word of RAM, which has all its bytes
 pub record IsBareWord (a : Arch) (b : Shared) (va width index : ℕ) : Type 0 where
@@ -77,10 +86,26 @@ ipi_after IpiOp.Read ipi h = ipi
 ipi_after IpiOp.Set ipi h = bit_or ipi (2 ^ h)
 ipi_after IpiOp.Clear ipi h = ipi - bit_and ipi (2 ^ h)
 
+-- what an AMO, an LR and an SC do
+abbrev pub amo_effect : Arch → Shared → (va : ℕ) → AmoOp → Bool → (value : ℕ) → Effect
+amo_effect a b va op wide value =
+    effect_of b (if is_misaligned wide va then faults 6 va else amo_done (ram_memory b.ram) va op wide value (reach_of a b Kind.Store va (width_of wide)))
+
+abbrev pub reserve_effect : Arch → Shared → (va : ℕ) → Bool → Effect
+reserve_effect a b va wide =
+    effect_of b (if is_misaligned wide va then faults 4 va else reserve (ram_memory b.ram) va wide (reach_of a b Kind.Load va (width_of wide)))
+
+abbrev pub conditional_effect : Arch → Shared → (va : ℕ) → Bool → (value : ℕ) → Effect
+conditional_effect a b va wide value =
+    effect_of b (if is_misaligned wide va then faults 6 va else conditionally (ram_memory b.ram) a va wide value (reach_of a b Kind.Store va (width_of wide)))
+
 -- what a need of hart h does, other than a call
 abbrev pub effect_of_need : (h : ℕ) → Arch → Shared → Need → Effect
 effect_of_need h a b (Need.Load va width sign) = effect_of b (loaded (ram_memory b.ram) va width sign (reach_of a b Kind.Load va width))
 effect_of_need h a b (Need.Store va width value) = effect_of b (stored (ram_memory b.ram) (room b) va width value (reach_of a b Kind.Store va width))
+effect_of_need h a b (Need.Amo va op wide value) = amo_effect a b va op wide value
+effect_of_need h a b (Need.Lr va wide) = reserve_effect a b va wide
+effect_of_need h a b (Need.Sc va wide value) = conditional_effect a b va wide value
 effect_of_need h a b (Need.Ipi op) = answers (record b { ipi = ipi_after op b.ipi h }) (Answer.Value (sip_value b.ipi h))
 effect_of_need h a b (Need.Trap cause tval) = answers b (Answer.Fault cause tval)
 effect_of_need h a b _ = answers b Answer.Nothing
@@ -133,16 +158,13 @@ faulted h t b cause tval = Alone (slot_trapped t cause tval) (shared_after h t b
 abbrev pub interrupted : HartSlot → Shared → Done
 interrupted t b = Alone (record t { arch = trapped t.arch software_interrupt 0 }) b
 
-abbrev pub unbuilt : HartSlot → Shared → Done
-unbuilt t b = Alone t (record b { reason = Some Reason.Unbuilt })
-
 abbrev pub after_need : (h : ℕ) → HartSlot → Shared → Instr → Need → Done
 after_need h t b i Need.Sbi = Calls i
 after_need h t b i n = retired h t i (effect_of_need h t.arch b n)
 
 abbrev pub after_word : (h : ℕ) → HartSlot → Shared → (word : ℕ) → Option Instr → Done
 after_word h t b word None = faulted h t b 2 word
-after_word h t b word (Some i) = if is_built i then after_need h t b i (need_of t.arch i) else unbuilt t b
+after_word h t b word (Some i) = after_need h t b i (need_of t.arch i)
 
 -- a word decodes in one way, and is done
 pub record IsDone (h : ℕ) (t : HartSlot) (b : Shared) (word : ℕ) (d : Done) : Type 0 where

@@ -11,7 +11,6 @@ use Rattle.ref_machine.specs.Walks.{need}
 use Rattle.ref_machine.specs.Change.{state_after}
 use Rattle.ref_machine.specs.Run.{state_of, counts, leaves, is_leaf_end}
 use Rattle.ref_machine.specs.Now.{IsNext, is_pending, fetch_end, fetch_now, exec_now}
-use Rattle.ref_machine.specs.Built.{is_built}
 use Rattle.ref_machine.specs.Lawful.{Flushing, flushing}
 
 -- the flushes that its instruction needs
@@ -39,13 +38,9 @@ instruction u s h code =
     then executing u (state_after (fetch_now u s h code) s) h ++ fetch_now u s h code ∷ []
     else with_stops u s h (fetch_now u s h code)
 
--- a stop stands in place of a form that isn't built
-abbrev pub built_turn : Setup → State → (h : ℕ) → Code → List Event
-built_turn u s h code = if is_built u s h code then instruction u s h code else Stop h Reason.Unbuilt ∷ []
-
 -- a turn of a running hart
 abbrev pub running_turn : Setup → State → (h : ℕ) → Code → List Event
-running_turn u s h code = if is_pending u s h (memory u s) then Interrupt h ∷ [] else built_turn u s h code
+running_turn u s h code = if is_pending u s h (memory u s) then Interrupt h ∷ [] else instruction u s h code
 
 abbrev pub turn_in : Setup → State → (h : ℕ) → Code → Mode → List Event
 turn_in u s h code Halted = []

@@ -1,6 +1,6 @@
 // Numbers of some of a word's bytes: reading and replacing them.
 ghost use Rattle.std.specs.Prelude.{◌≡◌, ◌≤◌, ◌<◌, ◌+◌, ◌-◌, ◌*◌, ◌/◌, ◌%◌, ◌^◌, IsTrue};
-ghost use Rattle.rv64_exec.specs.Built.{is_width};
+ghost use Rattle.rv64_exec.specs.Computed.{is_width};
 ghost use Rattle.ref_machine.specs.Memory.{part, replaced};
 ghost use Rattle.ref_machine.specs.Perform.{extended};
 
@@ -90,16 +90,7 @@ fn from(word: u64, offset: u64) -> u64
     requires { offset < 8 }
     ensures { result ≡ word / 256 ^ offset }
 {
-    match offset {
-        0 => word,
-        1 => word / 0x100,
-        2 => word / 0x1_0000,
-        3 => word / 0x100_0000,
-        4 => word / 0x1_0000_0000,
-        5 => word / 0x100_0000_0000,
-        6 => word / 0x1_0000_0000_0000,
-        _ => word / 0x100_0000_0000_0000,
-    }
+    word >> (8 * offset)
 }
 
 /// The number in the bytes of an access within `word`.

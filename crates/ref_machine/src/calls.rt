@@ -215,7 +215,7 @@ fn hsm_call(layout: Layout, slots: &[HartSlot], arch: &Arch, function: u64) -> C
     }
 }
 
-/// A reset to start again, cold or warm, is a form that the SBI names and that isn't built.
+/// A reset to start again, cold or warm, is one that the SBI names and this machine does not have.
 fn reset_call(kind: u64, reason: u64) -> Call
     ensures says { (m : Memory) → says m result ≡ sbi.reset_call kind reason }
     ensures sound { (l : TheLayout) → IsSound l result }

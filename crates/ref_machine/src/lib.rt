@@ -2,6 +2,7 @@
 //! `PlainMachine` is that machine on one thread, with every translation fresh.
 #![tactic(auto)]
 
+mod atomics;
 mod bytes;
 mod calling;
 mod calls;

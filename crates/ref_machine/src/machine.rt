@@ -86,6 +86,14 @@ impl PlainMachine {
         self.shared.console.as_slice()
     }
 
+    /// How many harts it has.
+    pub fn harts(&self) -> u8
+        ensures harts { result ≡ self.now.shared.layout.harts }
+        ensures slots { length self.now.slots ≡ self.now.shared.layout.harts }
+    {
+        self.shared.layout.harts
+    }
+
     /// A hart's registers.
     pub fn arch(&self, hart: u8) -> &Arch
         requires { hart < self.now.shared.layout.harts }

@@ -1,6 +1,6 @@
 // What the machine does for a need that memory or a device answers.
 ghost use Rattle.std.specs.Prelude.{◌≡◌, ◌<◌, ◌≤◌, ◌%◌, ◌∷◌, [], length, IsTrue, IfSome};
-ghost use Rattle.rv64_exec.specs.Built as exec;
+ghost use Rattle.rv64_exec.specs.Computed as exec;
 ghost use Rattle.rv64_exec.specs.declared.needs.Answer.{Answer as TheAnswer};
 ghost use Rattle.rv64_priv.specs.declared.state.Kind.{Kind as TheKind};
 ghost use Rattle.rv64_priv.specs.Bits.{is_set};
@@ -38,18 +38,27 @@ impl Shared {
         )
     }
 
+    /// The index of the word of RAM that has an address, where there is no translation.
+    #[inline(always)]
+    pub(crate) fn bare_place(&self, arch: &Arch, va: u64) -> Option<usize>
+        ensures { IfSome result (λ index. one.IsBarePlace arch.now self.now va index) }
+    {
+        // Below RAM the difference wraps, to more than any index.
+        let index = (va.wrapping_sub(RAM_BASE) / 8) as usize;
+        if is_untranslated(arch) && index < self.ram.len() {
+            Some(index)
+        } else {
+            None
+        }
+    }
+
     /// The index of RAM's word that has all bytes of an access, where there is no translation.
     #[inline(always)]
     fn bare_word(&self, arch: &Arch, va: u64, width: u8) -> Option<usize>
         ensures { IfSome result (λ index. one.IsBareWord arch.now self.now va width index) }
     {
-        let offset = va.wrapping_sub(RAM_BASE);
-        let index = (offset / 8) as usize;
-        if is_untranslated(arch)
-            && va >= RAM_BASE
-            && index < self.ram.len()
-            && va % 8 + u64::from(width) <= 8
-        {
+        let index = self.bare_place(arch, va)?;
+        if va % 8 + u64::from(width) <= 8 {
             Some(index)
         } else {
             None

@@ -1,23 +1,25 @@
 // A turn of a running hart by itself: all of it but the SBI's calls, which may touch other harts.
-ghost use Rattle.std.specs.Prelude.{◌≡◌, ◌≢◌, ◌<◌, ◌/◌, ◌%◌, ◌^◌, ◌+◌, IsNone, IsTrue, IfSome, None};
+ghost use Rattle.std.specs.Prelude.{◌≡◌, ◌≢◌, ◌<◌, ◌/◌, ◌%◌, ◌^◌, ◌+◌, IsNone, IfSome, None, false};
 ghost use Rattle.rv64_decode.specs.Encoding.{IsInRange};
-ghost use Rattle.rv64_exec.specs.Built as exec;
+ghost use Rattle.rv64_exec.specs.Computed as exec;
 ghost use Rattle.rv64_exec.specs.Finish.{Answers};
 ghost use Rattle.rv64_exec.specs.Plan.{need_of};
 ghost use Rattle.rv64_exec.specs.declared.needs.Need.{Need as TheNeed};
 ghost use Rattle.rv64_priv.specs.declared.state.Kind.{Kind as TheKind};
 ghost use Rattle.ref_machine.specs.Access as access;
 ghost use Rattle.ref_machine.specs.OneTurn as one;
+ghost use Rattle.ref_machine.specs.Given as given;
 ghost use Rattle.ref_machine.specs.Given.{done_of, Is, IsCall, IsSlotBehind};
 ghost use Rattle.ref_machine.specs.Translation.{IsWord};
 
+use crate::atomics::Reserved;
 use crate::decoder::Decoder;
 use crate::hart::HartSlot;
 use crate::reason::Reason;
 use crate::shared::Shared;
 use crate::translation::{Fault, fetch_place};
 use rv64_decode::Instr;
-use rv64_exec::{Answer, Arch, Need, compute, finish, is_built, plan};
+use rv64_exec::{Answer, Arch, Need, compute, finish_served, plan};
 use rv64_priv::{takes_interrupts, trap};
 use step_laws::RAM_BASE;
 
@@ -50,8 +52,18 @@ fn is_interrupted(hart: u8, arch: &Arch, shared: &Shared) -> bool
 }
 
 /// The hart's next word.
-#[inline]
+#[inline(always)]
 fn fetch(arch: &Arch, shared: &Shared) -> Result<u32, Fault>
+    ensures { IsWord shared.now.ram (access.spot_of TheKind.Fetch arch.now.pc (one.walk_end arch.now shared.now TheKind.Fetch arch.now.pc)) result }
+{
+    if let Some(index) = shared.bare_place(arch, arch.pc) {
+        return Ok(half_at(shared.ram[index], arch.pc));
+    }
+    fetch_anywhere(arch, shared)
+}
+
+#[inline(never)]
+fn fetch_anywhere(arch: &Arch, shared: &Shared) -> Result<u32, Fault>
     ensures { IsWord shared.now.ram (access.spot_of TheKind.Fetch arch.now.pc (one.walk_end arch.now shared.now TheKind.Fetch arch.now.pc)) result }
 {
     let pa = fetch_place(shared.ram.as_slice(), shared.layout.pages, arch, arch.pc)?;
@@ -87,7 +99,7 @@ pub(crate) fn step(
     }
 }
 
-/// Does the word's instruction, where it is built and no call; a word that is none traps.
+/// Does the word's instruction, where it is no call; a word that is none traps.
 #[inline]
 fn execute(
     hart: u8,
@@ -109,10 +121,6 @@ fn execute(
     };
     if compute(&mut slot.arch, &instr) {
         count(hart, slot, shared, None);
-        return None;
-    }
-    if !is_built(&instr) {
-        shared.reason = Some(Reason::Unbuilt);
         return None;
     }
     let need = plan(&slot.arch, &instr);
@@ -152,6 +160,43 @@ pub(crate) fn count(hart: u8, slot: &mut HartSlot, shared: &mut Shared, reason: 
     }
 }
 
+#[inline(always)]
+fn fault_answer(fault: Fault) -> Answer
+    ensures { result ≡ given.fault_answer fault }
+{
+    let Fault { cause, tval } = fault;
+    Answer::Fault { cause, tval }
+}
+
+/// The answer of a load, and of an atomic operation.
+#[inline(always)]
+fn value_answer(loaded: Result<u64, Fault>) -> Answer
+    ensures { result ≡ given.load_answer loaded }
+{
+    match loaded {
+        Ok(value) => Answer::Value(value),
+        Err(fault) => fault_answer(fault),
+    }
+}
+
+fn reserve_answer(loaded: Result<Reserved, Fault>) -> Answer
+    ensures { result ≡ given.reserve_answer loaded }
+{
+    match loaded {
+        Ok(Reserved { value, hold }) => Answer::LrValue { value, hold },
+        Err(fault) => fault_answer(fault),
+    }
+}
+
+fn conditional_answer(stored: Result<bool, Fault>) -> Answer
+    ensures { result ≡ given.conditional_answer stored }
+{
+    match stored {
+        Ok(stored) => Answer::Sc { stored },
+        Err(fault) => fault_answer(fault),
+    }
+}
+
 /// Does what an instruction needs, and finishes it.
 #[inline]
 fn serve(hart: u8, slot: &mut HartSlot, shared: &mut Shared, instr: &Instr, need: Need)
@@ -159,31 +204,39 @@ fn serve(hart: u8, slot: &mut HartSlot, shared: &mut Shared, instr: &Instr, need
     requires hart { hart < 8 }
     requires below { slot.old.count < shared.old.limit }
     requires range { IsInRange instr.now }
-    requires built { IsTrue (exec.is_built instr.now) }
-    requires form { exec.IsBuiltNeed need }
+    requires served { exec.is_alone slot.old.arch instr.now ≡ false }
+    requires form { exec.IsWellFormedNeed need }
     requires need { need ≡ need_of slot.old.arch instr.now }
     requires other { need ≢ TheNeed.Sbi }
     ensures done { Is slot.new shared.new (one.retired hart slot.old instr.now (one.effect_of_need hart slot.old.arch shared.old need)) }
     ensures kept { IsSlotBehind slot.old shared.old slot.new shared.new }
 {
-    let (answer, reason) = match need {
-        Need::Load { va, width, signed } => match shared.load(&slot.arch, va, width, signed) {
-            Ok(value) => (Answer::Value(value), None),
-            Err(Fault { cause, tval }) => (Answer::Fault { cause, tval }, None),
-        },
+    let mut reason = None;
+    let answer = match need {
+        Need::Load { va, width, signed } => value_answer(shared.load(
+            &slot.arch, va, width, signed,
+        )),
         Need::Store { va, width, value } => match shared.store(&slot.arch, va, width, value) {
-            Ok(reason) => (Answer::Nothing, reason),
-            Err(Fault { cause, tval }) => (Answer::Fault { cause, tval }, None),
+            Ok(end) => {
+                reason = end;
+                Answer::Nothing
+            }
+            Err(fault) => fault_answer(fault),
         },
-        Need::Ipi { op } => (Answer::Value(shared.change_ipi(hart, op)), None),
-        Need::Trap { cause, tval } => (Answer::Fault { cause, tval }, None),
-        Need::Nothing
-        | Need::Flush(_)
-        | Need::Sbi
-        | Need::Amo { .. }
-        | Need::Lr { .. }
-        | Need::Sc { .. } => (Answer::Nothing, None),
+        Need::Amo {
+            va,
+            op,
+            wide,
+            value,
+        } => value_answer(shared.operate(&slot.arch, va, op, wide, value)),
+        Need::Lr { va, wide } => reserve_answer(shared.load_reserved(&slot.arch, va, wide)),
+        Need::Sc { va, wide, value } => {
+            conditional_answer(shared.store_conditional(&slot.arch, va, wide, value))
+        }
+        Need::Ipi { op } => Answer::Value(shared.change_ipi(hart, op)),
+        Need::Trap { cause, tval } => Answer::Fault { cause, tval },
+        Need::Nothing | Need::Flush(_) | Need::Sbi => Answer::Nothing,
     };
-    finish(&mut slot.arch, instr, answer);
+    finish_served(&mut slot.arch, instr, answer);
     count(hart, slot, shared, reason);
 }

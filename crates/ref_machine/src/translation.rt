@@ -1,7 +1,7 @@
 // Fresh translations: each walk reads the page tables in RAM anew (Privileged Architecture, "Virtual Address
 // Translation Process").
 ghost use Rattle.std.specs.Prelude.{◌≡◌, ◌<◌, ◌≤◌, ◌+◌, ◌*◌, ◌^◌, length, false, IsTrue, IfOk};
-ghost use Rattle.rv64_exec.specs.Built.{is_width};
+ghost use Rattle.rv64_exec.specs.Computed.{is_width};
 ghost use Rattle.rv64_priv.specs.Csr.{regime};
 ghost use Rattle.rv64_priv.specs.Pte.{is_bare};
 ghost use Rattle.rv64_priv.specs.Walk as walk;
@@ -61,7 +61,8 @@ pub(crate) enum Reach {
 pub(crate) fn is_ram(pages: u32, pa: u64) -> bool
     ensures { result ≡ walk.is_ram pages pa }
 {
-    RAM_BASE <= pa && pa - RAM_BASE < 4096 * u64::from(pages)
+    // Below RAM the difference wraps, to more than any size.
+    pa.wrapping_sub(RAM_BASE) < 4096 * u64::from(pages)
 }
 
 #[inline]
@@ -94,6 +95,7 @@ fn reached(pages: u32, kind: Kind, pte: u64, page: u64, level: u8) -> WalkEnd
 }
 
 /// The end at an entry that is a leaf.
+#[inline]
 fn at_leaf(pages: u32, regime: &Regime, kind: Kind, va: u64, level: u8, pte: u64) -> WalkEnd
     requires { level ≤ 2 }
     ensures { end_of result ≡ walk.at_leaf pages regime.now kind va level pte }
@@ -104,40 +106,33 @@ fn at_leaf(pages: u32, regime: &Regime, kind: Kind, va: u64, level: u8, pte: u64
     }
 }
 
-/// The walk from a table on, whose entries are of the level below `levels`.
-fn walk_from(
-    ram: &[u64],
-    pages: u32,
-    regime: &Regime,
-    kind: Kind,
-    va: u64,
-    levels: u8,
-    table: u64,
-) -> WalkEnd
+/// The walk from the root's table down.
+#[inline(always)]
+fn walk_from(ram: &[u64], pages: u32, regime: &Regime, kind: Kind, va: u64, root: u64) -> WalkEnd
     requires size { length ram.now ≡ 512 * pages }
-    requires levels { levels ≤ 3 }
-    requires table { table < 2 ^ 56 }
-    ensures { end_of result ≡ walk.walk_from pages regime.now kind (ram_reads ram.now) va levels table }
+    requires root { root < 2 ^ 56 }
+    ensures { end_of result ≡ walk.walk_from pages regime.now kind (ram_reads ram.now) va 3 root }
 {
-    if levels == 0 {
-        return WalkEnd::PageFault;
+    let mut table = root;
+    for passed in 0..3 {
+        let level = 2 - passed;
+        let place = entry_place(table, va, level);
+        if !is_ram(pages, place) {
+            return WalkEnd::AccessFault;
+        }
+        let pte = ram[((place - RAM_BASE) / 8) as usize];
+        match entry_of(pte) {
+            Entry::Malformed => return WalkEnd::PageFault,
+            Entry::Pointer { table: below } => table = below,
+            Entry::Leaf => return at_leaf(pages, regime, kind, va, level, pte),
+        }
     }
-    let level = levels - 1;
-    let place = entry_place(table, va, level);
-    if !is_ram(pages, place) {
-        return WalkEnd::AccessFault;
-    }
-    let pte = ram[((place - RAM_BASE) / 8) as usize];
-    match entry_of(pte) {
-        Entry::Malformed => WalkEnd::PageFault,
-        Entry::Pointer { table } => walk_from(ram, pages, regime, kind, va, level, table),
-        Entry::Leaf => at_leaf(pages, regime, kind, va, level, pte),
-    }
+    WalkEnd::PageFault
 }
 
 /// The walk of an address through the page tables.
 #[tactic(auto, unfolding(rv64_priv::specs::Walk::walk_of))]
-#[inline(never)]
+#[inline(always)]
 fn walk_tables(ram: &[u64], pages: u32, regime: &Regime, kind: Kind, va: u64) -> WalkEnd
     requires size { length ram.now ≡ 512 * pages }
     requires pages { pages ≤ 4096 }
@@ -150,7 +145,7 @@ fn walk_tables(ram: &[u64], pages: u32, regime: &Regime, kind: Kind, va: u64) ->
         return WalkEnd::PageFault;
     }
     let root = regime.satp % 0x1000_0000_0000 * 4096;
-    walk_from(ram, pages, regime, kind, va, 3, root)
+    walk_from(ram, pages, regime, kind, va, root)
 }
 
 /// Addresses are physical, whatever else the regime is.
@@ -200,7 +195,7 @@ pub(crate) fn fetch_place(ram: &[u64], pages: u32, arch: &Arch, pc: u64) -> Resu
 
 /// Where an address leads.
 #[inline(always)]
-fn translate(ram: &[u64], pages: u32, arch: &Arch, kind: Kind, va: u64) -> Spot
+pub(crate) fn translate(ram: &[u64], pages: u32, arch: &Arch, kind: Kind, va: u64) -> Spot
     requires size { length ram.now ≡ 512 * pages }
     requires pages { pages ≤ 4096 }
     ensures spot { spot result ≡ access.spot_of kind va (walk.walk_of pages (regime arch.now) kind (ram_reads ram.now) va) }

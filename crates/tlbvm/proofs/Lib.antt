@@ -1,1 +1,5 @@
 pub mod Ends
+pub mod Orderly
+pub mod Reported
+pub mod OptionRows
+pub mod There

@@ -7,13 +7,14 @@ use Rattle.elf_load.specs.ImageOf.{image_of}
 use Rattle.ref_machine.specs.declared.reason.Reason.{Reason}
 use Rattle.tlbvm.specs.declared.start.Refusal.{Refusal}
 use Rattle.tlbvm.specs.declared.status.Status.{Status}
-use Rattle.tlbvm.specs.Line.{Operands, line_of}
-use Rattle.tlbvm.specs.Order.{order_of}
+use Rattle.tlbvm.specs.declared.items.Item.{Item}
+use Rattle.tlbvm.specs.Options.{Line, line_of}
+use Rattle.tlbvm.specs.Items.{items_of}
 use Rattle.tlbvm.specs.Status.{status_for}
 use Rattle.tlbvm.specs.Call.{Call, HasFailed, IsRefused, HasEnded, IsCutShort}
 
 -- this holds of the call that the words make, where they are a line
-abbrev pub OnLine : (Operands → Call) → List (List ℕ) → (Call → Type 0) → Type 0
+abbrev pub OnLine : (Line → Call) → List (List ℕ) → (Call → Type 0) → Type 0
 OnLine calls words P = IfSome (line_of words) (λ line. P (calls line))
 
 abbrev pub status_refused : Refusal → Status
@@ -39,7 +40,6 @@ CauseOfStatus (Status.Limit hart) call = HasEnded (Some (Reason.Limit hart)) cal
 CauseOfStatus Status.OutFull call = HasEnded (Some Reason.OutFull) call
 CauseOfStatus Status.AllStopped call = HasEnded (Some Reason.AllStopped) call
 CauseOfStatus Status.Stopped call = HasEnded (Some Reason.Stopped) call
-CauseOfStatus Status.Unbuilt call = HasEnded (Some Reason.Unbuilt) call
 
 -- the answers that come only where a machine has ended
 abbrev pub is_end : Status → Bool
@@ -62,7 +62,7 @@ pub record IsBadOnly (call : Call) (kind : BadImage) : Type 0 where
   pub file : List ℕ
   pub told : call.files.elf.told ≡ Some file
   pub within : length file ≤ 67108864
-  pub refused : image_of file 1024 ≡ Err kind
+  pub refused : image_of file call.line.pages ≡ Err kind
 
 -- then the answer is this, or there was no memory
 abbrev pub IsCompleteImage : Status → Call → Type 0
@@ -84,12 +84,12 @@ pub record IsReady (call : Call) : Type 0 where
   pub file_within : length file ≤ 67108864
   pub text_within : length text ≤ 67108864
   pub image : Loaded
-  pub is_image : image_of file 1024 ≡ Ok image
-  pub turns : ℕ
-  pub is_order : order_of text ≡ Some turns
+  pub is_image : image_of file call.line.pages ≡ Ok image
+  pub items : List Item
+  pub is_order : items_of text call.line.harts ≡ Ok items
 
 -- no read of the two names failed, the bytes of both are told and within the limit, the file is accepted, and the order is none
-pub record IsBadOrderOnly (call : Call) : Type 0 where
+pub record IsBadOrderOnly (call : Call) (number : ℕ) : Type 0 where
   pub no_elf_fault : HasFailed call.files.elf → ⊥
   pub no_order_fault : HasFailed call.files.order → ⊥
   pub file : List ℕ
@@ -99,12 +99,12 @@ pub record IsBadOrderOnly (call : Call) : Type 0 where
   pub file_within : length file ≤ 67108864
   pub text_within : length text ≤ 67108864
   pub image : Loaded
-  pub is_image : image_of file 1024 ≡ Ok image
-  pub refused : order_of text ≡ None
+  pub is_image : image_of file call.line.pages ≡ Ok image
+  pub refused : items_of text call.line.harts ≡ Err number
 
 -- then the answer is this, or there was no memory
 abbrev pub IsCompleteOrder : Status → Call → Type 0
-IsCompleteOrder status call = IsBadOrderOnly call → (status ≡ Status.NoMemory) ⊎ (status ≡ Status.BadOrder 1)
+IsCompleteOrder status call = (number : ℕ) → IsBadOrderOnly call number → (status ≡ Status.NoMemory) ⊎ (status ≡ Status.BadOrder number)
 
 -- then the machine runs to its end, and the answer is its first reason's, or there was no memory
 abbrev pub IsComplete : Status → Call → Type 0

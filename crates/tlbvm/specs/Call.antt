@@ -1,5 +1,5 @@
 -- What a call on a `plain` line read, what it ran, what it wrote, and the cause of each answer.
-use Rattle.std.specs.Prelude.{◌≡◌, ◌⊎◌, ℕ, ◌<◌, ◌≤◌, List, length, take, replicate, Option, Some, None, IfSome, Ok, Err}
+use Rattle.std.specs.Prelude.{◌≡◌, ◌⊎◌, ℕ, ◌<◌, ◌≤◌, List, length, take, Option, IfSome, Ok, Err}
 use Rattle.std.specs.Io.KnownBytes.{Appends}
 use Rattle.vm_io.specs.Faults.{Rose}
 use Rattle.elf_load.specs.Loaded.{Loaded}
@@ -8,23 +8,25 @@ use Rattle.elf_load.specs.ImageOf.{image_of}
 use Rattle.step_laws.specs.declared.words.Layout.{Layout}
 use Rattle.ref_machine.specs.declared.reason.Reason.{Reason}
 use Rattle.ref_machine.specs.Event.{Event}
-use Rattle.ref_machine.specs.State.{Setup, initial}
+use Rattle.ref_machine.specs.State.{Setup, State, initial}
 use Rattle.ref_machine.specs.Run.{state_of}
 use Rattle.ref_machine.specs.Lawful.{IsRun}
 use Rattle.ref_machine.specs.Plain.{IsPlainRun}
 use Rattle.ref_machine.specs.PlainState.{PlainState}
 use Rattle.ref_machine.specs.Shows.{Shows, setup_of}
 use Rattle.tlbvm.specs.declared.start.Refusal.{Refusal}
-use Rattle.tlbvm.specs.Line.{Operands}
-use Rattle.tlbvm.specs.Order.{order_of}
+use Rattle.tlbvm.specs.declared.items.Item.{Item}
+use Rattle.tlbvm.specs.Options.{Line}
+use Rattle.tlbvm.specs.Items.{items_of}
+use Rattle.tlbvm.specs.Turns.{turns_of}
 use Rattle.tlbvm.specs.Report.{report_of}
 
--- One hart, 1024 pages, and at most 50,000,000 instructions.
-abbrev pub plain_layout : Layout
-plain_layout = record { harts = 1; pages = 1024 }
+-- the machine that a line asks for
+abbrev pub layout_of : Line → Layout
+layout_of line = record { harts = line.harts; pages = line.pages }
 
-abbrev pub plain_setup : List ℕ → Loaded → Setup
-plain_setup file image = setup_of plain_layout file image 50000000
+abbrev pub plain_setup : Line → List ℕ → Loaded → Setup
+plain_setup line file image = setup_of (layout_of line) file image line.limit
 
 -- THE FILES
 
@@ -41,7 +43,7 @@ pub record Files : Type 0 where
 abbrev pub name_of : {F : Type 0} → (F → List ℕ → Option (List ℕ)) → (F → List ℕ → ℕ) → (old new : F) → List ℕ → Name
 name_of told faults old new name = record { told = told old name; before = faults old name; behind = faults new name }
 
-abbrev pub files_of : {F : Type 0} → (F → List ℕ → Option (List ℕ)) → (F → List ℕ → ℕ) → (old new : F) → Operands → Files
+abbrev pub files_of : {F : Type 0} → (F → List ℕ → Option (List ℕ)) → (F → List ℕ → ℕ) → (old new : F) → Line → Files
 files_of told faults old new line = record { elf = name_of told faults old new line.elf; order = name_of told faults old new line.order }
 
 -- bytes that were read of a name: at most 64 MiB, and what is told of it, where that is told
@@ -56,64 +58,61 @@ HasFailed name = Rose name.before name.behind
 abbrev pub IsTooLong : Name → Type 0
 IsTooLong name = IfSome name.told (λ told. 67108864 < length told)
 
--- the ELF file is accepted
-pub record IsAccepted (elf : Name) : Type 0 where
+-- the ELF file is accepted, for so many pages of RAM
+pub record IsAccepted (pages : ℕ) (elf : Name) : Type 0 where
   pub file : List ℕ
   pub were_read : WereRead elf file
   pub image : Loaded
-  pub is_image : image_of file 1024 ≡ Ok image
+  pub is_image : image_of file pages ≡ Ok image
 
 -- the first check that the ELF file fails
-pub record IsBadFile (elf : Name) (kind : BadImage) : Type 0 where
+pub record IsBadFile (pages : ℕ) (elf : Name) (kind : BadImage) : Type 0 where
   pub file : List ℕ
   pub were_read : WereRead elf file
-  pub refused : image_of file 1024 ≡ Err kind
+  pub refused : image_of file pages ≡ Err kind
 
--- the order has one line, which is bad
-pub record IsBadOrder (order : Name) (line : ℕ) : Type 0 where
+-- the first bad line of the order, for so many harts
+pub record IsBadOrder (harts : ℕ) (order : Name) (number : ℕ) : Type 0 where
   pub text : List ℕ
   pub were_read : WereRead order text
-  pub refused : order_of text ≡ None
-  pub first : line ≡ 1
+  pub refused : items_of text harts ≡ Err number
 
 -- why a call was refused before the machine's start: the ELF file is read and checked first, then the order
-abbrev pub CauseOf : Files → Refusal → Type 0
-CauseOf files Refusal.ReadFault = HasFailed files.elf ⊎ (IsAccepted files.elf × HasFailed files.order)
-CauseOf files Refusal.TooLong = IsTooLong files.elf ⊎ (IsAccepted files.elf × IsTooLong files.order)
-CauseOf files (Refusal.BadImage kind) = IsBadFile files.elf kind
-CauseOf files (Refusal.BadOrder line) = IsAccepted files.elf × IsBadOrder files.order line
-CauseOf files Refusal.NoMemory = Unit {0}
+abbrev pub CauseOf : Line → Files → Refusal → Type 0
+CauseOf line files Refusal.ReadFault = HasFailed files.elf ⊎ (IsAccepted line.pages files.elf × HasFailed files.order)
+CauseOf line files Refusal.TooLong = IsTooLong files.elf ⊎ (IsAccepted line.pages files.elf × IsTooLong files.order)
+CauseOf line files (Refusal.BadImage kind) = IsBadFile line.pages files.elf kind
+CauseOf line files (Refusal.BadOrder number) = IsAccepted line.pages files.elf × IsBadOrder line.harts files.order number
+CauseOf line files Refusal.NoMemory = Unit {0}
 
 -- THE MACHINE
 
 -- the machine was made from the files, and is at its first state
-pub record IsStarted (files : Files) (machine : PlainState) (turns : ℕ) : Type 0 where
+pub record IsStarted (line : Line) (files : Files) (machine : PlainState) (items : List Item) : Type 0 where
   pub file : List ℕ
   pub text : List ℕ
   pub file_read : WereRead files.elf file
   pub text_read : WereRead files.order text
   pub image : Loaded
-  pub is_image : image_of file 1024 ≡ Ok image
-  pub is_order : order_of text ≡ Some turns
-  pub first : Shows (plain_setup file image) machine (initial (plain_setup file image))
+  pub is_image : image_of file line.pages ≡ Ok image
+  pub is_order : items_of text line.harts ≡ Ok items
+  pub first : Shows (plain_setup line file image) machine (initial (plain_setup line file image))
 
--- One run of the reference machine from the image of the ELF file: the one plain run of the order. This is its first reason,
--- if it has one, and its output.
-pub record OneRun (files : Files) (reason : Option Reason) (output : List ℕ) : Type 0 where
+-- One run of the reference machine from the image of the ELF file, which leaves this state: the one plain run of the order.
+pub record OneRun (line : Line) (files : Files) (end : State) : Type 0 where
   pub file : List ℕ
   pub text : List ℕ
   pub file_read : WereRead files.elf file
   pub text_read : WereRead files.order text
   pub image : Loaded
-  pub is_image : image_of file 1024 ≡ Ok image
-  pub turns : ℕ
-  pub is_order : order_of text ≡ Some turns
+  pub is_image : image_of file line.pages ≡ Ok image
+  pub items : List Item
+  pub is_order : items_of text line.harts ≡ Ok items
   pub run : List Event
-  pub is_run : IsRun (plain_setup file image) run
-  pub is_plain : IsPlainRun (plain_setup file image) (replicate turns 0) run
-  pub is_only : (other : List Event) → IsPlainRun (plain_setup file image) (replicate turns 0) other → other ≡ run
-  pub is_reason : (state_of (plain_setup file image) run).reason ≡ reason
-  pub is_output : (state_of (plain_setup file image) run).output ≡ output
+  pub is_run : IsRun (plain_setup line file image) run
+  pub is_plain : IsPlainRun (plain_setup line file image) (turns_of line.harts items) run
+  pub is_only : (other : List Event) → IsPlainRun (plain_setup line file image) (turns_of line.harts items) other → other ≡ run
+  pub is_end : state_of (plain_setup line file image) run ≡ end
 
 -- WHAT WAS WRITTEN
 
@@ -143,31 +142,32 @@ pub record GetsPart (sink : Written) (bytes : List ℕ) : Type 0 where
 -- THE CALL
 
 pub record Call : Type 0 where
+  pub line : Line
   pub files : Files
   pub out : Written
   pub log : Written
 
 abbrev pub call_of : {F O L : Type 0} → (F → List ℕ → Option (List ℕ)) → (F → List ℕ → ℕ) → (O → Option (List ℕ)) → (O → ℕ) → (L → Option (List ℕ)) → (L → ℕ)
-    → (images images' : F) → (out out' : O) → (log log' : L) → Operands → Call
+    → (images images' : F) → (out out' : O) → (log log' : L) → Line → Call
 call_of told failed out_taken out_failed log_taken log_failed images images' out out' log log' line =
-    record { files = files_of told failed images images' line; out = written_of out_taken out_failed out out'; log = written_of log_taken log_failed log log' }
+    record { line = line; files = files_of told failed images images' line; out = written_of out_taken out_failed out out'; log = written_of log_taken log_failed log log' }
 
 -- a machine that ended with this first reason: `out` got its output, and `log` its report
 pub record HasEnded (reason : Option Reason) (call : Call) : Type 0 where
-  pub output : List ℕ
-  pub one_run : OneRun call.files reason output
-  pub out_gets : Gets call.out output
-  pub log_gets : Gets call.log (report_of reason)
+  pub end : State
+  pub one_run : OneRun call.line call.files end
+  pub is_reason : end.reason ≡ reason
+  pub out_gets : Gets call.out end.output
+  pub log_gets : Gets call.log (report_of call.line.regs end)
 
 -- a machine that ended, and a sink that failed: `log` gets nothing until `out` is whole
 pub record IsCutShort (call : Call) : Type 0 where
-  pub reason : Option Reason
-  pub output : List ℕ
-  pub one_run : OneRun call.files reason output
-  pub cut : (GetsPart call.out output × GetsNothing call.log) ⊎ (Gets call.out output × GetsPart call.log (report_of reason))
+  pub end : State
+  pub one_run : OneRun call.line call.files end
+  pub cut : (GetsPart call.out end.output × GetsNothing call.log) ⊎ (Gets call.out end.output × GetsPart call.log (report_of call.line.regs end))
 
 -- a refusal before the start: nothing is written
 pub record IsRefused (refusal : Refusal) (call : Call) : Type 0 where
-  pub cause : CauseOf call.files refusal
+  pub cause : CauseOf call.line call.files refusal
   pub out_gets : GetsNothing call.out
   pub log_gets : GetsNothing call.log

@@ -1,7 +1,9 @@
-pub mod Line
-pub mod Order
 pub mod Status
 pub mod Report
 pub mod Refused
 pub mod Call
 pub mod Answers
+pub mod Turns
+pub mod Items
+pub mod Lines
+pub mod Options

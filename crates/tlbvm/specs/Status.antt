@@ -19,7 +19,6 @@ exit_code_of Status.OutFull = 13
 exit_code_of Status.AllStopped = 14
 exit_code_of Status.OrderEnd = 15
 exit_code_of Status.Stopped = 16
-exit_code_of Status.Unbuilt = 17
 
 -- the checks of an ELF file are numbered in their order
 abbrev pub kind_number : BadImage → ℕ
@@ -47,7 +46,6 @@ status_text Status.OutFull = codes "output full"
 status_text Status.AllStopped = codes "all harts stopped"
 status_text Status.OrderEnd = codes "order ended"
 status_text Status.Stopped = codes "stopped"
-status_text Status.Unbuilt = codes "not built"
 
 -- the status of a first reason, or of none behind the order's last turn
 abbrev pub status_for : Option Reason → Status
@@ -58,4 +56,3 @@ status_for (Some (Reason.Limit hart)) = Status.Limit hart
 status_for (Some Reason.OutFull) = Status.OutFull
 status_for (Some Reason.AllStopped) = Status.AllStopped
 status_for (Some Reason.Stopped) = Status.Stopped
-status_for (Some Reason.Unbuilt) = Status.Unbuilt

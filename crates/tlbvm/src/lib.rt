@@ -3,13 +3,15 @@
 #![tactic(auto)]
 
 mod ending;
-mod line;
-mod order;
+mod items;
+mod options;
 mod report;
 mod start;
 mod status;
+mod taking;
 mod top;
 
 pub use elf_load::BadImage;
+pub use options::{PlainLine, read_line};
 pub use status::{Status, code, status_line};
 pub use top::tlbvm_still;

@@ -1,24 +1,17 @@
 // The reads and checks before the start, in their order, and the machine that they lead to.
-ghost use Rattle.std.specs.Prelude.{◌≡◌, ◌≤◌, ◌<◌, ℕ, List, IfOk, IfErr, IfSome, OnErr};
+ghost use Rattle.std.specs.Prelude.{◌≡◌, ◌≤◌, ◌<◌, ℕ, List, IfOk, None, IfErr, IfSome, OnErr};
 ghost use Rattle.vm_io.specs.Faults.{Rose};
-ghost use Rattle.tlbvm.specs.Call.{CauseOf, IsStarted, files_of};
+ghost use Rattle.tlbvm.specs.Call.{CauseOf, IsStarted, files_of, layout_of};
+ghost use Rattle.tlbvm.specs.Lines.{line_as, IsInLimits};
+ghost use Rattle.tlbvm.specs.Turns.{AreThere};
 
-use crate::line::PlainLine;
-use crate::order::read_order;
+use crate::items::{Item, OrderErr, read_items};
+use crate::options::PlainLine;
 use elf_load::{BadImage, ImageErr, parse};
 use ref_machine::PlainMachine;
 use std::alloc::Global;
 use step_laws::Layout;
 use vm_io::{Images, NoMemory, ReadErr, read_all};
-
-/// The machine of a `plain` line.
-const LAYOUT: Layout = Layout {
-    harts: 1,
-    pages: 1024,
-};
-
-/// The instructions that a hart may do.
-const LIMIT: u64 = 50_000_000;
 
 /// Why no machine was started.
 #[derive(Clone, Copy, Debug, PartialEq, Eq)]
@@ -31,11 +24,11 @@ pub(crate) enum Refusal {
     NoMemory,
 }
 
-/// A machine at its first state, and how many turns its order gives.
+/// A machine at its first state, and what its order gives turns to.
 #[derive(Drop)]
 pub(crate) struct Job {
     pub machine: PlainMachine,
-    pub turns: u64,
+    pub items: Vec<Item>,
 }
 
 /// Reads and checks the files of a line, and makes their machine.
@@ -44,17 +37,23 @@ pub(crate) fn start<F: Images>(
     line: &PlainLine<'_>,
     images: &mut F,
 ) -> Result<Job, Refusal>
-    ensures ok { IfOk result (λ job. IsStarted (files_of F.told F.faults images.old images.new (record { elf = line.now.elf.now; order = line.now.order.now })) job.machine job.turns) }
-    ensures err { IfErr result (λ refusal. CauseOf (files_of F.told F.faults images.old images.new (record { elf = line.now.elf.now; order = line.now.order.now })) refusal) }
+    requires { IsInLimits (line_as line.now) }
+    ensures ok { IfOk result (λ job. IsStarted (line_as line.now) (files_of F.told F.faults images.old images.new (line_as line.now)) job.machine job.items.items) }
+    ensures there { IfOk result (λ job. AreThere line.now.harts job.items.items) }
+    ensures layout { IfOk result (λ job. job.machine.shared.layout ≡ layout_of (line_as line.now)) }
+    ensures going { IfOk result (λ job. job.machine.shared.reason ≡ None) }
+    ensures err { IfErr result (λ refusal. CauseOf (line_as line.now) (files_of F.told F.faults images.old images.new (line_as line.now)) refusal) }
 {
     let file = read_all(alloc, images, line.elf)?;
-    let image = parse(alloc, file.as_slice(), LAYOUT.pages)?;
+    let image = parse(alloc, file.as_slice(), line.pages)?;
     let text = read_all(alloc, images, line.order)?;
-    let Some(turns) = read_order(text.as_slice()) else {
-        return Err(Refusal::BadOrder(1));
+    let items = read_items(alloc, text.as_slice(), line.harts)?;
+    let layout = Layout {
+        harts: line.harts,
+        pages: line.pages,
     };
-    let machine = PlainMachine::new(alloc, &image, file.as_slice(), LAYOUT, LIMIT)?;
-    Ok(Job { machine, turns })
+    let machine = PlainMachine::new(alloc, &image, file.as_slice(), layout, line.limit)?;
+    Ok(Job { machine, items })
 }
 
 impl From<ReadErr> for Refusal {
@@ -80,6 +79,19 @@ impl From<ImageErr> for Refusal {
         match e {
             ImageErr::Bad(kind) => Refusal::BadImage(kind),
             ImageErr::NoMemory => Refusal::NoMemory,
+        }
+    }
+}
+
+impl From<OrderErr> for Refusal {
+    ghost use Rattle.tlbvm.specs.Refused.{refusal_of_order};
+
+    ghost from_gives = { λ e r. r ≡ refusal_of_order e };
+
+    fn from(e: OrderErr) -> Refusal {
+        match e {
+            OrderErr::Bad(line) => Refusal::BadOrder(line),
+            OrderErr::NoMemory => Refusal::NoMemory,
         }
     }
 }

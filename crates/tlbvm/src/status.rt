@@ -6,7 +6,7 @@ use arrayvec::ArrayString;
 use elf_load::BadImage;
 use itoa::Buffer;
 
-/// How a call ended. Of these only `Done`, `GuestFailed`, `OrderEnd` and `Unbuilt` are ends of a machine yet.
+/// How a call ended. Of the ends of a machine `Stopped` doesn't come yet: there are no scripts.
 #[derive(Clone, Copy, Debug, PartialEq, Eq)]
 pub enum Status {
     /// The guest said that it passed.
@@ -37,8 +37,6 @@ pub enum Status {
     OrderEnd,
     /// The script stopped the machine.
     Stopped,
-    /// What the guest came to isn't built yet.
-    Unbuilt,
 }
 
 /// The exit code of a status.
@@ -60,7 +58,6 @@ pub fn code(status: &Status) -> u8
         Status::AllStopped => 14,
         Status::OrderEnd => 15,
         Status::Stopped => 16,
-        Status::Unbuilt => 17,
     }
 }
 
@@ -112,7 +109,6 @@ pub fn status_line(status: &Status) -> ArrayString<96>
         Status::AllStopped => line.push_str("all harts stopped"),
         Status::OrderEnd => line.push_str("order ended"),
         Status::Stopped => line.push_str("stopped"),
-        Status::Unbuilt => line.push_str("not built"),
     }
     line
 }

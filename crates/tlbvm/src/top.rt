@@ -2,16 +2,18 @@
 ghost use Rattle.std.specs.Prelude.{◌≡◌, ◌↔◌, ℕ, Option, None, Some, IsTrue, map, string_bytes};
 ghost use Rattle.elf_load.specs.declared.image.BadImage.{BadImage as TheBadImage};
 ghost use Rattle.ref_machine.specs.declared.reason.Reason.{Reason as TheReason};
-ghost use Rattle.tlbvm.specs.Line.{line_of};
+ghost use Rattle.tlbvm.specs.Options.{line_of};
+ghost use Rattle.tlbvm.specs.Lines.{line_as, IsInLimits};
 ghost use Rattle.tlbvm.specs.Status.{status_for};
 ghost use Rattle.tlbvm.specs.Call.{call_of, written_of, GetsNothing, IsRefused, HasEnded, IsCutShort};
 ghost use Rattle.tlbvm.specs.Answers.{CauseOfStatus, IsComplete, IsCompleteImage, IsCompleteOrder, IsOneRun, OnLine, is_end, status_refused};
 ghost use Rattle.tlbvm.specs.declared.start.Refusal.{Refusal as TheRefusal};
 
-use crate::ending::{take_turns, write_end};
-use crate::line::{PlainLine, read_line};
+use crate::ending::write_end;
+use crate::options::{PlainLine, read_line};
 use crate::start::{Refusal, start};
 use crate::status::Status;
+use crate::taking::take_turns;
 use ref_machine::Reason;
 use std::alloc::Global;
 use vm_io::{Images, Sink};
@@ -27,7 +29,6 @@ fn status_of(reason: Option<Reason>) -> Status
         Some(Reason::OutFull) => Status::OutFull,
         Some(Reason::AllStopped) => Status::AllStopped,
         Some(Reason::Stopped) => Status::Stopped,
-        Some(Reason::Unbuilt) => Status::Unbuilt,
     }
 }
 
@@ -51,15 +52,15 @@ fn plain<F: Images, O: Sink, L: Sink>(
     out: &mut O,
     log: &mut L,
 ) -> Status
-    ensures { CauseOfStatus result (call_of F.told F.faults O.taken O.faults L.taken L.faults images.old images.new out.old out.new log.old log.new
-        (record { elf = line.now.elf.now; order = line.now.order.now })) }
+    requires { IsInLimits (line_as line.now) }
+    ensures { CauseOfStatus result (call_of F.told F.faults O.taken O.faults L.taken L.faults images.old images.new out.old out.new log.old log.new (line_as line.now)) }
 {
     let mut job = match start(alloc, line, images) {
         Ok(job) => job,
         Err(refusal) => return status_refused(refusal),
     };
-    let reason = take_turns(&mut job.machine, job.turns);
-    match write_end(job.machine.console(), reason, out, log) {
+    let reason = take_turns(&mut job.machine, line.harts, job.items.as_slice());
+    match write_end(&job.machine, reason, line.regs, out, log) {
         Ok(()) => status_of(reason),
         Err(_) => Status::WriteFault,
     }
@@ -68,9 +69,10 @@ fn plain<F: Images, O: Sink, L: Sink>(
 /// Does all that a command line says, on one thread: reads its files by name from `images`, runs the machine to its
 /// end, and writes the console's bytes to `out` and then the report to `log`.
 ///
-/// The line that is built is `plain ELF ORDER`, where neither operand begins with `-`. Checks are made in this order:
-/// the words, the read of ELF, the image, the read of ORDER, the order, the machine's memory; the first that fails
-/// answers, and then nothing was written. Want of memory comes before the first turn only.
+/// The lines that are built are those of `plain`: `plain ELF ORDER`, with the options `--harts N`, `--pages N`,
+/// `--limit N` and `--regs`. Checks are made in this order: the words, the read of ELF, the image, the read of ORDER,
+/// the order, the machine's memory; the first that fails answers, and then nothing was written. Want of memory comes
+/// before the first turn only.
 pub fn tlbvm_still<F: Images, O: Sink, L: Sink>(
     alloc: Global,
     words: &[String],
@@ -126,9 +128,6 @@ pub fn tlbvm_still<F: Images, O: Sink, L: Sink>(
     ensures stopped { result ≡ Status.Stopped → OnLine
         (call_of F.told F.faults O.taken O.faults L.taken L.faults images.old images.new out.old out.new log.old log.new) (map string_bytes words.now)
         (HasEnded (Some TheReason.Stopped)) }
-    ensures unbuilt { result ≡ Status.Unbuilt → OnLine
-        (call_of F.told F.faults O.taken O.faults L.taken L.faults images.old images.new out.old out.new log.old log.new) (map string_bytes words.now)
-        (HasEnded (Some TheReason.Unbuilt)) }
 
     // A sink failed: what it took is a prefix of what was due, and `log` got nothing until `out` was whole.
     ensures write_fault { result ≡ Status.WriteFault → OnLine

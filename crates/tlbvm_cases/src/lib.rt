@@ -3,15 +3,21 @@
 #![tactic(auto)]
 
 #[cfg(test)]
+mod atomics;
+#[cfg(test)]
 mod base;
 #[cfg(test)]
 mod faults;
 #[cfg(test)]
 mod guests;
 #[cfg(test)]
+mod lines;
+#[cfg(test)]
 mod linked;
 #[cfg(test)]
 mod machine;
+#[cfg(test)]
+mod orders;
 #[cfg(test)]
 mod program;
 #[cfg(test)]
@@ -24,3 +30,5 @@ mod stores;
 mod supervisor;
 #[cfg(test)]
 mod whole;
+#[cfg(test)]
+mod worked;

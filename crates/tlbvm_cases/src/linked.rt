@@ -88,11 +88,9 @@ const FROM_BYTE_8: [u32; 20] = [
     0x0062_a023, // sw x6, 0(x5)
 ];
 
-// Linked for the virtual address 0x10000 and placed at RAM's first byte. Attributes, sections and symbols lie right
-// behind the segment's bytes, and none of their bytes comes into memory.
-#[test]
-fn a_linked_file_runs(rt: HostRuntime) -> Result<(), Fail> {
-    let alloc = rt.alloc();
+/// A file linked for the virtual address 0x10000 and placed at RAM's first byte. Attributes, sections and symbols lie
+/// right behind the segment's bytes, and none of their bytes comes into memory.
+pub(crate) fn linked_file(alloc: Global) -> Result<Vec<u8>, AllocError> {
     let len = 4 * 20 + 1;
     let attributes = Segment {
         kind: ATTRIBUTES,
@@ -121,7 +119,13 @@ fn a_linked_file_runs(rt: HostRuntime) -> Result<(), Fail> {
     push_words(&mut file, &FROM_BYTE_8)?;
     file.extend_from_slice(b"e")?;
     file.extend_from_slice(&[0x55; 32 + 128])?;
-    let files = files(alloc, file, b"turn 0 18\n".to_vec(alloc)?)?;
+    Ok(file)
+}
+
+#[test]
+fn a_linked_file_runs(rt: HostRuntime) -> Result<(), Fail> {
+    let alloc = rt.alloc();
+    let files = files(alloc, linked_file(alloc)?, b"turn 0 18\n".to_vec(alloc)?)?;
     let ended = call(alloc, PLAIN, files, NO_FAULTS)?;
     let want = Want {
         status: Status::Done,

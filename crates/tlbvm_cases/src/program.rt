@@ -22,12 +22,6 @@ const PASS: Want<'static> = Want {
     log: b"end: pass\n",
 };
 
-const UNBUILT: Want<'static> = Want {
-    status: Status::Unbuilt,
-    out: b"",
-    log: b"end: not built\n",
-};
-
 fn order_ended(out: &[u8]) -> Want<'_> {
     Want {
         status: Status::OrderEnd,
@@ -96,7 +90,7 @@ fn machines_end(rt: HostRuntime) -> Result<(), Fail> {
             b"turn 0 00000000000000000005",
             order_ended(b"OK"),
         ),
-        at_start("not built", &product, b"turn 0 1\n", UNBUILT),
+        at_start("a product", &product, b"turn 0 1\n", order_ended(b"")),
         at_start("before a zero word", &add, b"turn 0 1\n", order_ended(b"")),
         at_start("a zero word", &add, b"turn 0 2\n", order_ended(b"")),
         at_the_end("RAM's last word", &add, b"turn 0 1\n", order_ended(b"")),
@@ -194,7 +188,6 @@ fn statuses_have_codes_and_lines(rt: HostRuntime) {
         (Status::AllStopped, 14, "all harts stopped"),
         (Status::OrderEnd, 15, "order ended"),
         (Status::Stopped, 16, "stopped"),
-        (Status::Unbuilt, 17, "not built"),
     ] {
         assert_eq!(rt; code(&status), exit, "{line}");
         assert_eq!(rt; status_line(&status).as_str(), line);

@@ -8,7 +8,7 @@ mod traps;
 use crate::guests::{RAM, elf_of};
 use elf_load::parse;
 use ref_machine::{PlainMachine, Reason};
-use std::alloc::Global;
+use std::alloc::{AllocError, Global};
 use std::process::Abort;
 use std::test::Fail;
 use step_laws::Layout;
@@ -44,14 +44,15 @@ fn machine(alloc: Global, code: &[u32]) -> Result<PlainMachine, Fail>
     machine_of(alloc, 1, code)
 }
 
-/// A machine with this code at RAM's begin, the tables, and data that tell places apart.
-pub(crate) fn machine_of(alloc: Global, harts: u8, code: &[u32]) -> Result<PlainMachine, Fail>
-    requires some { 1 ≤ harts }
-    requires most { harts ≤ 8 }
-    ensures { IfOk result (λ machine. machine.shared.layout.harts ≡ harts) }
-{
+/// An executable with this code at RAM's begin and a handler at 0x80000100, the tables, and data that tell places apart.
+pub(crate) fn with_map<'a>(
+    alloc: Global,
+    code: &'a [u32],
+    handler: &'a [u32],
+) -> Result<Vec<u8>, AllocError> {
     let segments = [
         (RAM, code),
+        (RAM + 0x100, handler),
         (0x8000_3000, [0x44].as_slice()),
         (0x8001_0000, ROOT.as_slice()),
         (0x8001_1000, MIDDLE.as_slice()),
@@ -61,7 +62,16 @@ pub(crate) fn machine_of(alloc: Global, harts: u8, code: &[u32]) -> Result<Plain
         (0x8002_1000, [0x22].as_slice()),
         (0x8020_3000, [0x33].as_slice()),
     ];
-    let file = elf_of(alloc, RAM, &segments)?;
+    elf_of(alloc, RAM, &segments)
+}
+
+/// A machine with this code at RAM's begin, the tables and the data.
+pub(crate) fn machine_of(alloc: Global, harts: u8, code: &[u32]) -> Result<PlainMachine, Fail>
+    requires some { 1 ≤ harts }
+    requires most { harts ≤ 8 }
+    ensures { IfOk result (λ machine. machine.shared.layout.harts ≡ harts) }
+{
+    let file = with_map(alloc, code, &[])?;
     let image = parse(alloc, &file, PAGES)?;
     let layout = Layout {
         harts,

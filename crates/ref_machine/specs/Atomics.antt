@@ -1,0 +1,41 @@
+-- Where atomic accesses lead, as the machine on one thread finds it.
+use Rattle.std.specs.Prelude.{ℕ, ◌+◌, ◌*◌, ◌%◌, ◌^◌, ◌≤◌, ◌<◌, Bool, if◌then◌else◌, Result, Ok, Err}
+use Rattle.rv64_priv.specs.State.{Arch}
+use Rattle.rv64_priv.specs.declared.state.Kind.{Kind}
+use Rattle.rv64_priv.specs.Trap.{access_fault}
+use Rattle.step_laws.specs.Words.{ram_word}
+use Rattle.ref_machine.specs.declared.translation.Fault.{Fault as TheFault}
+use Rattle.ref_machine.specs.Memory.{Span, One}
+use Rattle.ref_machine.specs.Access.{Reach, InRam, OnDevice, Fault}
+use Rattle.ref_machine.specs.Perform.{width_of, is_misaligned}
+use Rattle.ref_machine.specs.SharedState.{Shared}
+use Rattle.ref_machine.specs.OneTurn.{reach_of}
+
+-- the cause of a misaligned address (Privileged Architecture, "Supervisor Cause (scause) Register")
+abbrev pub misaligned : Kind → ℕ
+misaligned Kind.Fetch = 0
+misaligned Kind.Load = 4
+misaligned Kind.Store = 6
+
+-- no device takes an atomic access
+abbrev pub in_ram : Kind → (va : ℕ) → Reach → Reach
+in_ram kind va (InRam span) = InRam span
+in_ram kind va (OnDevice pa) = Fault (access_fault kind) va
+in_ram kind va (Fault cause tval) = Fault cause tval
+
+-- a misaligned one faults before its page is looked for
+abbrev pub atomic_reach : Arch → Shared → Kind → (va : ℕ) → Bool → Reach
+atomic_reach a b kind va wide = if is_misaligned wide va then Fault (misaligned kind) va else in_ram kind va (reach_of a b kind va (width_of wide))
+
+-- bytes within a word of RAM, by their physical address
+abbrev pub span_at : Bool → (pa : ℕ) → Span
+span_at wide pa = One (ram_word pa) (pa % 8) (width_of wide)
+
+-- where an access leads that was found to lie there, or to fault
+abbrev pub reached : Bool → Result ℕ TheFault → Reach
+reached wide (Ok pa) = InRam (span_at wide pa)
+reached wide (Err fault) = Fault fault.cause fault.tval
+
+-- it lies within one word of RAM
+abbrev pub IsWithin : (words : ℕ) → Bool → (pa : ℕ) → Type 0
+IsWithin words wide pa = (2 ^ 31 ≤ pa) × (pa < 2 ^ 31 + 8 * words) × (pa % 8 + width_of wide ≤ 8)

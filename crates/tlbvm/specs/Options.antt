@@ -1,0 +1,130 @@
+-- The command line of `plain`: two operands, ELF and ORDER, and options, which stand at any place behind the command.
+use Rattle.std.specs.Prelude.{ℕ, Bool, true, false, not, ◌||◌, ◌==◌, nat_le, if◌then◌else◌, List, [], ◌∷◌, Option, Some, None, is_none, codes, bytes_eq, unwrap_or}
+use Rattle.std.specs.List.{before_first, after_first, list_any}
+use Rattle.std.specs.Option.{option_and_then, option_copied, option_map}
+use Rattle.text_lines.specs.Number.{number_within}
+use Rattle.tlbvm.specs.declared.options.seen.Seen.{Seen}
+
+-- what a line says
+pub record Line : Type 0 where
+  pub elf : List ℕ
+  pub order : List ℕ
+  pub harts : ℕ
+  pub pages : ℕ
+  pub limit : ℕ
+  pub regs : Bool
+
+-- what was read so far
+pub record SoFar : Type 0 where
+  pub elf : Option (List ℕ)
+  pub order : Option (List ℕ)
+  pub harts : Option ℕ
+  pub pages : Option ℕ
+  pub limit : Option ℕ
+  pub regs : Bool
+
+abbrev pub nothing : SoFar
+nothing = record { elf = None; order = None; harts = None; pages = None; limit = None; regs = false }
+
+-- WORDS
+
+-- a word that begins with a dash
+abbrev pub is_dashed : List ℕ → Bool
+is_dashed [] = false
+is_dashed (c ∷ cs) = c == 45
+
+-- an operand in front of `--`: no word that begins with a dash, but for `-` itself
+abbrev pub is_operand : List ℕ → Bool
+is_operand word = not (is_dashed word) || bytes_eq word (codes "-")
+
+-- an option with its value, `NAME=VALUE`, is parted at its first `=`
+abbrev pub is_equals : ℕ → Bool
+is_equals c = c == 61
+
+abbrev pub has_value : List ℕ → Bool
+has_value word = list_any is_equals word
+
+abbrev pub name_in : List ℕ → List ℕ
+name_in word = before_first is_equals word
+
+abbrev pub value_in : List ℕ → List ℕ
+value_in word = after_first is_equals word
+
+-- WHAT THEY SAY
+
+-- the first operand is ELF, the second is ORDER, and there is no third
+abbrev pub with_operand : List ℕ → SoFar → Option SoFar
+with_operand word seen =
+    if is_none seen.elf then Some (record seen { elf = Some word }) else
+    if is_none seen.order then Some (record seen { order = Some word }) else None
+
+-- `--regs`, once
+abbrev pub with_regs : SoFar → Option SoFar
+with_regs seen = if seen.regs then None else Some (record seen { regs = true })
+
+-- the number that a text is, where it is one within these bounds
+abbrev pub number_between : (least most : ℕ) → List ℕ → Option ℕ
+number_between least most text = option_and_then (λ n. if nat_le least n then Some n else None) (number_within text most)
+
+-- a value for a place that is free
+abbrev pub taken : (place value : Option ℕ) → Option ℕ
+taken None value = value
+taken (Some n) value = None
+
+-- an option that takes a number, by its name; no other takes a value
+unfoldable pub with_value : (name value : List ℕ) → SoFar → Option SoFar
+with_value name value seen =
+    if bytes_eq name (codes "--harts") then option_map (λ n. record seen { harts = Some n }) (taken seen.harts (number_between 1 8 value)) else
+    if bytes_eq name (codes "--pages") then option_map (λ n. record seen { pages = Some n }) (taken seen.pages (number_between 256 4096 value)) else
+    if bytes_eq name (codes "--limit") then option_map (λ n. record seen { limit = Some n }) (taken seen.limit (number_between 1 1000000000000 value)) else
+    None
+
+-- LINES
+
+-- what was read after words behind `--`
+abbrev pub after_operands : List (List ℕ) → SoFar → Option SoFar
+after_operands [] seen = Some seen
+after_operands (word ∷ words) seen = option_and_then (after_operands words) (with_operand word seen)
+
+-- What was read after words in front of `--`; `awaits` is the name of an option whose value is the next word. A word that
+-- is none of the others is an option with its value or awaits one: `with_value` refuses a name that takes none.
+abbrev pub after_words : List (List ℕ) → (awaits : Option (List ℕ)) → SoFar → Option SoFar
+after_words [] None seen = Some seen
+after_words [] (Some name) seen = None
+after_words (word ∷ words) (Some name) seen =
+    if is_dashed word then None else option_and_then (after_words words None) (with_value name word seen)
+after_words (word ∷ words) None seen =
+    if is_operand word then option_and_then (after_words words None) (with_operand word seen) else
+    if bytes_eq word (codes "--") then after_operands words seen else
+    if bytes_eq word (codes "--regs") then option_and_then (after_words words None) (with_regs seen) else
+    if has_value word then option_and_then (after_words words None) (with_value (name_in word) (value_in word) seen) else
+    after_words words (Some word) seen
+
+-- both operands are there; an option that is not has its default
+abbrev pub line_from : SoFar → Option Line
+line_from seen =
+    option_and_then (λ elf. option_and_then (λ order. Some (record {
+      elf = elf;
+      order = order;
+      harts = unwrap_or seen.harts 1;
+      pages = unwrap_or seen.pages 1024;
+      limit = unwrap_or seen.limit 50000000;
+      regs = seen.regs;
+    })) seen.order) seen.elf
+
+-- the words of a line, of which the first is the command
+abbrev pub line_of : List (List ℕ) → Option Line
+line_of [] = None
+line_of (command ∷ words) =
+    if bytes_eq command (codes "plain") then option_and_then line_from (after_words words None nothing) else None
+
+-- what the code has read so far
+abbrev pub shown : Seen → SoFar
+shown seen = record {
+  elf = option_copied seen.elf;
+  order = option_copied seen.order;
+  harts = seen.harts;
+  pages = seen.pages;
+  limit = seen.limit;
+  regs = seen.regs;
+}
