@@ -285,40 +285,38 @@ const SEQUENCES: [Sequence; 22] = [
     ),
 ];
 
-#[test]
-fn reservations_end(rt: HostRuntime) -> Result<(), Fail> {
-    for (what, code, address, x10, after) in SEQUENCES {
+fn all_come_to(rt: &impl Abort, alloc: Global, rows: &[Sequence]) -> Result<(), Fail> {
+    for (what, code, address, x10, after) in rows {
         let guest = Guest {
             code,
-            address,
+            address: *address,
             ..GIVEN
         };
         let want = Want {
-            x10,
-            after,
+            x10: *x10,
+            after: *after,
             ..UNCHANGED
         };
-        comes_to(&rt, rt.alloc(), what, guest, want)?;
+        comes_to(rt, alloc, what, guest, want)?;
     }
     Ok(())
 }
 
-/// Some code, the satp and the address that it gets, what x10 comes to, and the cause and value of the trap.
-type Trapping = (&'static str, &'static [u32], u64, u64, u64, u64, u64);
+#[test]
+fn reservations_end(rt: HostRuntime) -> Result<(), Fail> {
+    all_come_to(&rt, rt.alloc(), &SEQUENCES)
+}
+
+/// Some code, the address that it gets, what x10 comes to, and the cause and value of the trap.
+type Trapping = (&'static str, &'static [u32], u64, u64, u64, u64);
 
 const DEVICE: u64 = 0x1000_0000;
 
-/// Where the doubleword is without W, and where it isn't.
-const READ_ALONE: u64 = 0x2_0000;
-
-const NO_PAGE: u64 = 0x4002_0000;
-
-const TRAPS: [Trapping; 22] = [
-    ("a trap between", &[LR_D, BREAK, SC_D], 0, PLACE, 1, 3, 0),
+const TRAPS: [Trapping; 14] = [
+    ("a trap between", &[LR_D, BREAK, SC_D], PLACE, 1, 3, 0),
     (
         "amoadd.d off 8",
         &[AMOADD_D],
-        0,
         PLACE + 4,
         UNWRITTEN,
         6,
@@ -327,17 +325,15 @@ const TRAPS: [Trapping; 22] = [
     (
         "lr.d off 8",
         &[LR_D_SHOWN],
-        0,
         PLACE + 4,
         UNWRITTEN,
         4,
         PLACE + 4,
     ),
-    ("sc.d off 8", &[SC_D], 0, PLACE + 4, UNWRITTEN, 6, PLACE + 4),
+    ("sc.d off 8", &[SC_D], PLACE + 4, UNWRITTEN, 6, PLACE + 4),
     (
         "amoadd.w off 4",
         &[AMOADD_W],
-        0,
         PLACE + 2,
         UNWRITTEN,
         6,
@@ -346,17 +342,15 @@ const TRAPS: [Trapping; 22] = [
     (
         "lr.w off 4",
         &[LR_W_SHOWN],
-        0,
         PLACE + 2,
         UNWRITTEN,
         4,
         PLACE + 2,
     ),
-    ("sc.w off 4", &[SC_W], 0, PLACE + 2, UNWRITTEN, 6, PLACE + 2),
+    ("sc.w off 4", &[SC_W], PLACE + 2, UNWRITTEN, 6, PLACE + 2),
     (
         "amoadd.w on a device",
         &[AMOADD_W],
-        0,
         DEVICE,
         UNWRITTEN,
         7,
@@ -365,38 +359,35 @@ const TRAPS: [Trapping; 22] = [
     (
         "lr.w on a device",
         &[LR_W_SHOWN],
-        0,
         DEVICE,
         UNWRITTEN,
         5,
         DEVICE,
     ),
-    ("sc.w on a device", &[SC_W], 0, DEVICE, UNWRITTEN, 7, DEVICE),
+    ("sc.w on a device", &[SC_W], DEVICE, UNWRITTEN, 7, DEVICE),
     (
         "off 8 on a device",
         &[AMOADD_D],
-        0,
         DEVICE + 4,
         UNWRITTEN,
         6,
         DEVICE + 4,
     ),
-    ("amoadd.d in no RAM", &[AMOADD_D], 0, 0, UNWRITTEN, 7, 0),
-    ("lr.d in no RAM", &[LR_D_SHOWN], 0, 0, UNWRITTEN, 5, 0),
-    ("sc.d in no RAM", &[SC_D], 0, 0, UNWRITTEN, 7, 0),
-    (
-        "lr.d without W",
-        &[LR_D_SHOWN],
-        SV39,
-        READ_ALONE,
-        BEFORE,
-        0,
-        0,
-    ),
+    ("amoadd.d in no RAM", &[AMOADD_D], 0, UNWRITTEN, 7, 0),
+    ("lr.d in no RAM", &[LR_D_SHOWN], 0, UNWRITTEN, 5, 0),
+    ("sc.d in no RAM", &[SC_D], 0, UNWRITTEN, 7, 0),
+];
+
+/// Where the doubleword is without W, and where it isn't.
+const READ_ALONE: u64 = 0x2_0000;
+
+const NO_PAGE: u64 = 0x4002_0000;
+
+const PAGE_TRAPS: [Trapping; 8] = [
+    ("lr.d without W", &[LR_D_SHOWN], READ_ALONE, BEFORE, 0, 0),
     (
         "amoadd.d without W",
         &[AMOADD_D],
-        SV39,
         READ_ALONE,
         UNWRITTEN,
         15,
@@ -405,7 +396,6 @@ const TRAPS: [Trapping; 22] = [
     (
         "sc.d without W",
         &[SC_D],
-        SV39,
         READ_ALONE,
         UNWRITTEN,
         15,
@@ -414,7 +404,6 @@ const TRAPS: [Trapping; 22] = [
     (
         "lr.d and sc.d without W",
         &[LR_D, SC_D],
-        SV39,
         READ_ALONE,
         UNWRITTEN,
         15,
@@ -423,7 +412,6 @@ const TRAPS: [Trapping; 22] = [
     (
         "amoadd.d of no page",
         &[AMOADD_D],
-        SV39,
         NO_PAGE,
         UNWRITTEN,
         15,
@@ -432,25 +420,15 @@ const TRAPS: [Trapping; 22] = [
     (
         "lr.d of no page",
         &[LR_D_SHOWN],
-        SV39,
         NO_PAGE,
         UNWRITTEN,
         13,
         NO_PAGE,
     ),
-    (
-        "sc.d of no page",
-        &[SC_D],
-        SV39,
-        NO_PAGE,
-        UNWRITTEN,
-        15,
-        NO_PAGE,
-    ),
+    ("sc.d of no page", &[SC_D], NO_PAGE, UNWRITTEN, 15, NO_PAGE),
     (
         "off 8 of no page",
         &[SC_D],
-        SV39,
         NO_PAGE + 4,
         UNWRITTEN,
         6,
@@ -458,25 +436,34 @@ const TRAPS: [Trapping; 22] = [
     ),
 ];
 
-// What traps leaves memory.
-#[test]
-fn atomics_trap(rt: HostRuntime) -> Result<(), Fail> {
-    for (what, code, satp, address, x10, scause, stval) in TRAPS {
+/// Each comes to its trap, or to none where the cause is 0, and leaves memory.
+fn all_trap(rt: &impl Abort, alloc: Global, satp: u64, rows: &[Trapping]) -> Result<(), Fail> {
+    for (what, code, address, x10, scause, stval) in rows {
         let guest = Guest {
             code,
-            address,
+            address: *address,
             satp,
             ..GIVEN
         };
         let want = Want {
-            x10,
-            scause,
-            stval,
+            x10: *x10,
+            scause: *scause,
+            stval: *stval,
             ..UNCHANGED
         };
-        comes_to(&rt, rt.alloc(), what, guest, want)?;
+        comes_to(rt, alloc, what, guest, want)?;
     }
     Ok(())
+}
+
+#[test]
+fn atomics_trap(rt: HostRuntime) -> Result<(), Fail> {
+    all_trap(&rt, rt.alloc(), 0, &TRAPS)
+}
+
+#[test]
+fn atomics_trap_on_pages(rt: HostRuntime) -> Result<(), Fail> {
+    all_trap(&rt, rt.alloc(), SV39, &PAGE_TRAPS)
 }
 
 /// Starts hart 1 at its code with 0x80020000 in x11, and comes to a load-reserved in 18 turns.
@@ -508,25 +495,37 @@ const BETWEEN: [(&str, u32, u64, u64); 6] = [
     ),
 ];
 
+/// Hart 1 does an instruction between a load-reserved and a store-conditional of hart 0.
+fn comes_between(
+    rt: &impl Abort,
+    alloc: Global,
+    what: &str,
+    other: u32,
+    want: Want,
+) -> Result<(), Fail> {
+    let guest = Guest {
+        code: &STARTER,
+        other,
+        ..GIVEN
+    };
+    let mut machine = machine_of(alloc, guest)?;
+    turn_times(&mut machine, 0, 18);
+    // it begins, and takes its instruction
+    turn_times(&mut machine, 1, 2);
+    turn_times(&mut machine, 0, TURNS);
+    compare(rt, &machine, want, what);
+    Ok(())
+}
+
 #[test]
-fn another_hart_stores_between(rt: HostRuntime) -> Result<(), Fail> {
+fn another_hart_comes_between(rt: HostRuntime) -> Result<(), Fail> {
     for (what, other, x10, after) in BETWEEN {
-        let guest = Guest {
-            code: &STARTER,
-            other,
-            ..GIVEN
-        };
         let want = Want {
             x10,
             after,
             ..UNCHANGED
         };
-        let mut machine = machine_of(rt.alloc(), guest)?;
-        turn_times(&mut machine, 0, 18);
-        // it begins, and takes its instruction
-        turn_times(&mut machine, 1, 2);
-        turn_times(&mut machine, 0, TURNS);
-        compare(&rt, &machine, want, what);
+        comes_between(&rt, rt.alloc(), what, other, want)?;
     }
     Ok(())
 }

@@ -15,113 +15,110 @@ const PAGES: u32 = 1024;
 
 const LIMIT: u64 = 50_000_000;
 
-/// Each accepted line, and what it says.
-const ACCEPTED: [(&str, Said<'static>); 48] = [
-    ("plain e o", ("e", "o", HARTS, PAGES, LIMIT, false)),
-    ("plain e o --regs", ("e", "o", HARTS, PAGES, LIMIT, true)),
-    ("plain e --regs o", ("e", "o", HARTS, PAGES, LIMIT, true)),
-    ("plain --regs e o", ("e", "o", HARTS, PAGES, LIMIT, true)),
-    ("plain e o --harts 1", ("e", "o", 1, PAGES, LIMIT, false)),
-    ("plain e o --harts 8", ("e", "o", 8, PAGES, LIMIT, false)),
-    ("plain e o --harts=8", ("e", "o", 8, PAGES, LIMIT, false)),
-    ("plain e --harts 2 o", ("e", "o", 2, PAGES, LIMIT, false)),
-    ("plain --harts=3 e o", ("e", "o", 3, PAGES, LIMIT, false)),
-    ("plain e o --harts 08", ("e", "o", 8, PAGES, LIMIT, false)),
-    (
-        "plain e o --pages 256",
-        ("e", "o", HARTS, 256, LIMIT, false),
-    ),
-    (
-        "plain --pages=4096 e o",
-        ("e", "o", HARTS, 4096, LIMIT, false),
-    ),
-    (
-        "plain e --pages 0257 o",
-        ("e", "o", HARTS, 257, LIMIT, false),
-    ),
-    ("plain e o --limit 1", ("e", "o", HARTS, PAGES, 1, false)),
+/// A line with the operands `e` and `o`, and what else it says: harts, pages, limit and regs.
+type Options = (&'static str, u8, u32, u64, bool);
+
+const OPTIONS: [Options; 30] = [
+    ("plain e o", HARTS, PAGES, LIMIT, false),
+    ("plain e o --regs", HARTS, PAGES, LIMIT, true),
+    ("plain e --regs o", HARTS, PAGES, LIMIT, true),
+    ("plain --regs e o", HARTS, PAGES, LIMIT, true),
+    ("plain e o --harts 1", 1, PAGES, LIMIT, false),
+    ("plain e o --harts 8", 8, PAGES, LIMIT, false),
+    ("plain e o --harts=8", 8, PAGES, LIMIT, false),
+    ("plain e --harts 2 o", 2, PAGES, LIMIT, false),
+    ("plain --harts=3 e o", 3, PAGES, LIMIT, false),
+    ("plain e o --harts 08", 8, PAGES, LIMIT, false),
+    ("plain e o --pages 256", HARTS, 256, LIMIT, false),
+    ("plain --pages=4096 e o", HARTS, 4096, LIMIT, false),
+    ("plain e --pages 0257 o", HARTS, 257, LIMIT, false),
+    ("plain e o --limit 1", HARTS, PAGES, 1, false),
     (
         "plain e o --limit=1000000000000",
-        ("e", "o", HARTS, PAGES, 1_000_000_000_000, false),
+        HARTS,
+        PAGES,
+        1_000_000_000_000,
+        false,
     ),
     (
         "plain e o --limit 00000001000000000000",
-        ("e", "o", HARTS, PAGES, 1_000_000_000_000, false),
+        HARTS,
+        PAGES,
+        1_000_000_000_000,
+        false,
     ),
     (
         "plain e --limit 5 --regs o --harts 2 --pages=300",
-        ("e", "o", 2, 300, 5, true),
+        2,
+        300,
+        5,
+        true,
     ),
     (
         "plain --harts 2 --pages 300 --limit 5 --regs e o",
-        ("e", "o", 2, 300, 5, true),
+        2,
+        300,
+        5,
+        true,
     ),
-    ("plain -- e o", ("e", "o", HARTS, PAGES, LIMIT, false)),
-    ("plain e -- o", ("e", "o", HARTS, PAGES, LIMIT, false)),
-    ("plain e o --", ("e", "o", HARTS, PAGES, LIMIT, false)),
-    (
-        "plain --regs -- -e --harts",
-        ("-e", "--harts", HARTS, PAGES, LIMIT, true),
-    ),
-    (
-        "plain e --harts 4 -- -o",
-        ("e", "-o", 4, PAGES, LIMIT, false),
-    ),
-    ("plain - o", ("-", "o", HARTS, PAGES, LIMIT, false)),
-    ("plain e -", ("e", "-", HARTS, PAGES, LIMIT, false)),
-    (
-        "plain e=1 o.txt",
-        ("e=1", "o.txt", HARTS, PAGES, LIMIT, false),
-    ),
-    ("plain -- --e -o", ("--e", "-o", HARTS, PAGES, LIMIT, false)),
-    ("plain -- -- --", ("--", "--", HARTS, PAGES, LIMIT, false)),
-    ("plain -- e --", ("e", "--", HARTS, PAGES, LIMIT, false)),
-    ("plain - -", ("-", "-", HARTS, PAGES, LIMIT, false)),
-    ("plain -- - -r", ("-", "-r", HARTS, PAGES, LIMIT, false)),
-    (
-        "plain -- e --regs",
-        ("e", "--regs", HARTS, PAGES, LIMIT, false),
-    ),
-    (
-        "plain e -- --harts=2",
-        ("e", "--harts=2", HARTS, PAGES, LIMIT, false),
-    ),
-    ("plain e o=1", ("e", "o=1", HARTS, PAGES, LIMIT, false)),
-    ("plain  o", ("", "o", HARTS, PAGES, LIMIT, false)),
-    (
-        "plain plain plain",
-        ("plain", "plain", HARTS, PAGES, LIMIT, false),
-    ),
-    ("plain 8 9", ("8", "9", HARTS, PAGES, LIMIT, false)),
-    ("plain é ô", ("é", "ô", HARTS, PAGES, LIMIT, false)),
-    ("plain --harts 2 e o", ("e", "o", 2, PAGES, LIMIT, false)),
-    (
-        "plain e --harts=2 o --regs",
-        ("e", "o", 2, PAGES, LIMIT, true),
-    ),
-    ("plain e --regs -- o", ("e", "o", HARTS, PAGES, LIMIT, true)),
-    ("plain --limit 5 -- e o", ("e", "o", HARTS, PAGES, 5, false)),
+    ("plain -- e o", HARTS, PAGES, LIMIT, false),
+    ("plain e -- o", HARTS, PAGES, LIMIT, false),
+    ("plain e o --", HARTS, PAGES, LIMIT, false),
+    ("plain --harts 2 e o", 2, PAGES, LIMIT, false),
+    ("plain e --harts=2 o --regs", 2, PAGES, LIMIT, true),
+    ("plain e --regs -- o", HARTS, PAGES, LIMIT, true),
+    ("plain --limit 5 -- e o", HARTS, PAGES, 5, false),
     (
         "plain e --pages 512 --limit 9 --regs --harts 3 o",
-        ("e", "o", 3, 512, 9, true),
+        3,
+        512,
+        9,
+        true,
     ),
     (
         "plain --limit=9 e o --harts=3 --pages=512",
-        ("e", "o", 3, 512, 9, false),
+        3,
+        512,
+        9,
+        false,
     ),
-    ("plain --regs 1 o", ("1", "o", HARTS, PAGES, LIMIT, true)),
     (
         "plain e o --harts 00000000000000000002",
-        ("e", "o", 2, PAGES, LIMIT, false),
+        2,
+        PAGES,
+        LIMIT,
+        false,
     ),
-    (
-        "plain e o --pages 0256",
-        ("e", "o", HARTS, 256, LIMIT, false),
-    ),
-    (
-        "plain e o --pages=4096",
-        ("e", "o", HARTS, 4096, LIMIT, false),
-    ),
+    ("plain e o --pages 0256", HARTS, 256, LIMIT, false),
+    ("plain e o --pages=4096", HARTS, 4096, LIMIT, false),
+];
+
+/// A line with other operands, and what it says: ELF, ORDER, harts and regs.
+type Operands = (&'static str, &'static str, &'static str, u8, bool);
+
+const OPERANDS: [Operands; 10] = [
+    ("plain - o", "-", "o", HARTS, false),
+    ("plain e -", "e", "-", HARTS, false),
+    ("plain e=1 o.txt", "e=1", "o.txt", HARTS, false),
+    ("plain - -", "-", "-", HARTS, false),
+    ("plain e o=1", "e", "o=1", HARTS, false),
+    ("plain  o", "", "o", HARTS, false),
+    ("plain plain plain", "plain", "plain", HARTS, false),
+    ("plain 8 9", "8", "9", HARTS, false),
+    ("plain é ô", "é", "ô", HARTS, false),
+    ("plain --regs 1 o", "1", "o", HARTS, true),
+];
+
+/// Behind `--` each word is an operand.
+const BEHIND_DASHES: [Operands; 8] = [
+    ("plain --regs -- -e --harts", "-e", "--harts", HARTS, true),
+    ("plain e --harts 4 -- -o", "e", "-o", 4, false),
+    ("plain -- --e -o", "--e", "-o", HARTS, false),
+    ("plain -- -- --", "--", "--", HARTS, false),
+    ("plain -- e --", "e", "--", HARTS, false),
+    ("plain -- - -r", "-", "-r", HARTS, false),
+    ("plain -- e --regs", "e", "--regs", HARTS, false),
+    ("plain e -- --harts=2", "e", "--harts=2", HARTS, false),
 ];
 
 fn words_of(alloc: Global, line: &str) -> Result<Vec<String>, AllocError> {
@@ -178,10 +175,33 @@ fn compare(rt: &impl Abort, alloc: Global, line: &str, want: Said<'static>) -> R
     Ok(())
 }
 
-#[test]
-fn lines_say_what_clap_reads(rt: HostRuntime) -> Result<(), Fail> {
-    for (line, want) in ACCEPTED {
-        compare(&rt, rt.alloc(), line, want)?;
+fn all_options(rt: &impl Abort, alloc: Global, rows: &[Options]) -> Result<(), Fail> {
+    for (line, harts, pages, limit, regs) in rows {
+        let want = ("e", "o", *harts, *pages, *limit, *regs);
+        compare(rt, alloc, line, want)?;
     }
     Ok(())
+}
+
+#[test]
+fn options_say_what_clap_reads(rt: HostRuntime) -> Result<(), Fail> {
+    all_options(&rt, rt.alloc(), &OPTIONS)
+}
+
+fn all_operands(rt: &impl Abort, alloc: Global, rows: &[Operands]) -> Result<(), Fail> {
+    for (line, elf, order, harts, regs) in rows {
+        let want = (*elf, *order, *harts, PAGES, LIMIT, *regs);
+        compare(rt, alloc, line, want)?;
+    }
+    Ok(())
+}
+
+#[test]
+fn operands_say_what_clap_reads(rt: HostRuntime) -> Result<(), Fail> {
+    all_operands(&rt, rt.alloc(), &OPERANDS)
+}
+
+#[test]
+fn words_behind_dashes_are_operands(rt: HostRuntime) -> Result<(), Fail> {
+    all_operands(&rt, rt.alloc(), &BEHIND_DASHES)
 }

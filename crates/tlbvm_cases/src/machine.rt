@@ -86,24 +86,31 @@ fn run(machine: &mut PlainMachine, most: u64) -> (u64, Option<Reason>)
     (most, None)
 }
 
+/// A machine of one hart ends behind so many turns, and a turn more changes nothing.
+fn ends(
+    rt: &impl Abort,
+    alloc: Global,
+    limit: u64,
+    turns: u64,
+    reason: Reason,
+    want: Want<'_>,
+) -> Result<(), Fail>
+    requires { 0 < limit }
+{
+    let mut machine = hello(alloc, 1, limit)?;
+    assert_eq!(rt; run(&mut machine, 100), (turns, Some(reason)));
+    assert_eq!(rt; machine.turn(0), Some(reason));
+    compare(rt, &machine, want);
+    Ok(())
+}
+
 #[test]
 fn machines_keep_their_end(rt: HostRuntime) -> Result<(), Fail> {
     let alloc = rt.alloc();
-    let mut machine = hello(alloc, 1, 50_000_000)?;
-    compare(&rt, &machine, BEGUN);
-    assert_eq!(rt; run(&mut machine, 100), (11, Some(Reason::Pass)));
-    assert_eq!(rt; machine.turn(0), Some(Reason::Pass));
-    compare(&rt, &machine, PASSED);
-    let mut machine = hello(alloc, 1, 5)?;
-    assert_eq!(rt; run(&mut machine, 100), (5, Some(Reason::Limit(0))));
-    assert_eq!(rt; machine.turn(0), Some(Reason::Limit(0)));
-    compare(&rt, &machine, LIMITED);
+    ends(&rt, alloc, 50_000_000, 11, Reason::Pass, PASSED)?;
+    ends(&rt, alloc, 5, 5, Reason::Limit(0), LIMITED)?;
     // The guest's own end comes before the limit.
-    let mut machine = hello(alloc, 1, 11)?;
-    assert_eq!(rt; run(&mut machine, 100), (11, Some(Reason::Pass)));
-    assert_eq!(rt; machine.turn(0), Some(Reason::Pass));
-    compare(&rt, &machine, PASSED);
-    Ok(())
+    ends(&rt, alloc, 11, 11, Reason::Pass, PASSED)
 }
 
 #[test]

@@ -2,6 +2,7 @@
 use crate::guests::{HELLO, RAM, elf};
 use crate::whole::{Ended, Faults, NO_FAULTS, Want, call, compare, files, refused};
 use std::alloc::{AllocError, Global};
+use std::process::Abort;
 use std::test::Fail;
 use tlbvm::{Status, code};
 
@@ -60,88 +61,88 @@ fn run(
     call(alloc, line, files, faults)
 }
 
-/// An order whose first line is bad.
-const BAD: Want<'static> = Want {
-    status: Status::BadOrder(1),
-    out: b"",
-    log: b"",
-};
-
-const ORDERS: [(&[u8], Want<'static>); 44] = [
-    (b"turn 0 11", PASSED),
-    (b"turn 0 11\n", PASSED),
-    (b"turn 0 11\r\n", PASSED),
-    (b"turn 0 11\r", BAD),
-    (b"turn 0 5", NOT_ALL),
-    (b"turn 0 5\nturn 0 6\n", PASSED),
-    (b"turn 0 5\r\nturn 0 6\r\n", PASSED),
-    (b"\n\n  \t \nturn 0 11\n", PASSED),
-    (
-        b"# a comment\nturn 0 5 \n\t# another\n \tturn\t0\t6",
-        PASSED,
-    ),
-    (b"#turn 0 0\nturn 0 11\n", PASSED),
-    (b"turn 0 11 # not here\n", BAD),
-    (b"turn 0 000011\n", PASSED),
-    (b"turn 0 00000000000000000011\n", PASSED),
-    (b"turn 0 000000000000000000011\n", BAD),
-    (b"turn 00000000000000000000 11\n", PASSED),
-    (b"turn 1 5\n", BAD),
-    (b"turn 0 0\n", BAD),
-    (b"turn 0\n", BAD),
-    (b"turn\n", BAD),
-    (b"turn 0 11 0\n", BAD),
-    (b"turn 0 -1\n", BAD),
-    (b"turn 0 0x5\n", BAD),
-    (b"turn 0 +5\n", BAD),
-    (b"Turn 0 11\n", BAD),
-    (b"turns 0 11\n", BAD),
-    (b"turn 0 1000000000\n", PASSED),
-    (b"turn 0 1000000001\n", BAD),
-    (
-        b"turn 0 11\nturn 0 1000000000\n",
-        Want {
-            status: Status::BadOrder(2),
-            ..BAD
-        },
-    ),
-    (
-        b"turn 0 11\n\nbad\nworse\n",
-        Want {
-            status: Status::BadOrder(3),
-            ..BAD
-        },
-    ),
-    (b"mon 5\nturn 0 11\n", PASSED),
-    (b"mon 5\n", NO_TURN),
-    (b"mon 1000000000\n", NO_TURN),
-    (
-        b"mon 1000000000\nmon 1\n",
-        Want {
-            status: Status::BadOrder(2),
-            ..BAD
-        },
-    ),
-    (b"mon\n", BAD),
-    (b"mon 0\n", BAD),
-    (b"mon 5 5\n", BAD),
-    (b"rounds 11\n", PASSED),
-    (b"rounds 5\n", NOT_ALL),
-    (b"rounds 500000000\n", PASSED),
-    (b"rounds 500000001\n", BAD),
-    (b"rounds 0\n", BAD),
-    (b"rounds\n", BAD),
-    (b"rounds 5 5\n", BAD),
-    (b"", NO_TURN),
+/// Orders by which the hello guest comes to its end.
+const GOOD: [&[u8]; 15] = [
+    b"turn 0 11",
+    b"turn 0 11\n",
+    b"turn 0 11\r\n",
+    b"turn 0 5\nturn 0 6\n",
+    b"turn 0 5\r\nturn 0 6\r\n",
+    b"\n\n  \t \nturn 0 11\n",
+    b"# a comment\nturn 0 5 \n\t# another\n \tturn\t0\t6",
+    b"#turn 0 0\nturn 0 11\n",
+    b"turn 0 000011\n",
+    b"turn 0 00000000000000000011\n",
+    b"turn 00000000000000000000 11\n",
+    b"turn 0 1000000000\n",
+    b"mon 5\nturn 0 11\n",
+    b"rounds 11\n",
+    b"rounds 500000000\n",
 ];
+
+/// Orders whose first line is bad.
+const BAD: [&[u8]; 21] = [
+    b"turn 0 11\r",
+    b"turn 0 11 # not here\n",
+    b"turn 0 000000000000000000011\n",
+    b"turn 1 5\n",
+    b"turn 0 0\n",
+    b"turn 0\n",
+    b"turn\n",
+    b"turn 0 11 0\n",
+    b"turn 0 -1\n",
+    b"turn 0 0x5\n",
+    b"turn 0 +5\n",
+    b"Turn 0 11\n",
+    b"turns 0 11\n",
+    b"turn 0 1000000001\n",
+    b"mon\n",
+    b"mon 0\n",
+    b"mon 5 5\n",
+    b"rounds 500000001\n",
+    b"rounds 0\n",
+    b"rounds\n",
+    b"rounds 5 5\n",
+];
+
+/// A run of the hello guest by each of these orders ends like this.
+fn all_end(
+    rt: &impl Abort,
+    alloc: Global,
+    orders: &[&[u8]],
+    want: Want<'_>,
+) -> Result<(), AllocError> {
+    for order in orders {
+        let ended = run(alloc, "plain elf order", &HELLO, order, NO_FAULTS)?;
+        compare(rt, &ended, want, "an order");
+    }
+    Ok(())
+}
 
 #[test]
 fn orders_are_read_by_lines(rt: HostRuntime) -> Result<(), Fail> {
     let alloc = rt.alloc();
-    for (order, want) in ORDERS {
-        let ended = run(alloc, "plain elf order", &HELLO, order, NO_FAULTS)?;
-        compare(&rt, &ended, want, "an order");
-    }
+    all_end(&rt, alloc, &GOOD, PASSED)?;
+    all_end(&rt, alloc, &[b"turn 0 5", b"rounds 5\n"], NOT_ALL)?;
+    all_end(&rt, alloc, &[b"mon 5\n", b"mon 1000000000\n", b""], NO_TURN)?;
+    Ok(())
+}
+
+#[test]
+fn bad_lines_are_refused(rt: HostRuntime) -> Result<(), Fail> {
+    let alloc = rt.alloc();
+    all_end(&rt, alloc, &BAD, refused(Status::BadOrder(1)))?;
+    let second: [&[u8]; 2] = [
+        b"turn 0 11\nturn 0 1000000000\n",
+        b"mon 1000000000\nmon 1\n",
+    ];
+    all_end(&rt, alloc, &second, refused(Status::BadOrder(2)))?;
+    all_end(
+        &rt,
+        alloc,
+        &[b"turn 0 11\n\nbad\nworse\n"],
+        refused(Status::BadOrder(3)),
+    )?;
     Ok(())
 }
 
@@ -189,12 +190,27 @@ fn push_hart(log: &mut Vec<u8>, front: &[u8], values: &[Shown<'_>]) -> Result<()
     log.extend_from_slice(b"\n")
 }
 
+/// The lines of a report: its end, and one hart.
+fn report(
+    alloc: Global,
+    end: &[u8],
+    front: &[u8],
+    values: &[Shown<'_>],
+) -> Result<Vec<u8>, AllocError> {
+    let mut log = end.to_vec(alloc)?;
+    push_hart(&mut log, front, values)?;
+    Ok(log)
+}
+
+/// What the hello guest leaves in its registers, and in the report in front of them.
+const HELLO_FRONT: &[u8] = b"hart 0 11 000000008000002c";
+
+const HELLO_LEFT: [Shown<'static>; 2] = [(5, b"0000000000100000"), (6, b"0000000000005555")];
+
 #[test]
 fn registers_are_reported(rt: HostRuntime) -> Result<(), Fail> {
     let alloc = rt.alloc();
-    let mut log = b"end: pass\n".to_vec(alloc)?;
-    let registers = [(5, b"0000000000100000"), (6, b"0000000000005555")];
-    push_hart(&mut log, b"hart 0 11 000000008000002c", &registers)?;
+    let log = report(alloc, b"end: pass\n", HELLO_FRONT, &HELLO_LEFT)?;
     let want = Want {
         log: &log,
         ..PASSED
@@ -208,7 +224,14 @@ fn registers_are_reported(rt: HostRuntime) -> Result<(), Fail> {
         let ended = run(alloc, line, &HELLO, b"turn 0 100\n", NO_FAULTS)?;
         compare(&rt, &ended, want, line);
     }
-    // A hart that was never started has zeros, and its turns do nothing.
+    Ok(())
+}
+
+// A hart that was never started has zeros, and its turns do nothing.
+#[test]
+fn stopped_harts_are_reported(rt: HostRuntime) -> Result<(), Fail> {
+    let alloc = rt.alloc();
+    let mut log = report(alloc, b"end: pass\n", HELLO_FRONT, &HELLO_LEFT)?;
     push_hart(&mut log, b"hart 1 0 0000000000000000", &[])?;
     let want = Want {
         log: &log,
@@ -222,49 +245,68 @@ fn registers_are_reported(rt: HostRuntime) -> Result<(), Fail> {
     Ok(())
 }
 
+/// A run that prints nothing ends with this status, whose code is `number`, and this report.
+fn ends_silently(
+    rt: &impl Abort,
+    ended: &Ended,
+    status: Status,
+    number: u8,
+    log: &[u8],
+    what: &str,
+) {
+    let want = Want {
+        status,
+        out: b"",
+        log,
+    };
+    compare(rt, ended, want, what);
+    assert_eq!(rt; code(&ended.status), number, "code: {what}");
+}
+
+#[test]
+fn rounds_end(rt: HostRuntime) -> Result<(), Fail> {
+    let alloc = rt.alloc();
+    let log = report(
+        alloc,
+        b"end: order ended\n",
+        b"hart 0 3 0000000080000000",
+        &[],
+    )?;
+    let line = "plain elf order --regs";
+    let ended = run(alloc, line, &LOOP, b"rounds 3\n", NO_FAULTS)?;
+    ends_silently(&rt, &ended, Status::OrderEnd, 15, &log, "three rounds");
+    Ok(())
+}
+
 #[test]
 fn limits_end_machines(rt: HostRuntime) -> Result<(), Fail> {
     let alloc = rt.alloc();
-    let mut log = b"end: order ended\n".to_vec(alloc)?;
-    push_hart(&mut log, b"hart 0 3 0000000080000000", &[])?;
-    let want = Want {
-        status: Status::OrderEnd,
-        out: b"",
-        log: &log,
-    };
-    let ended = run(
+    let log = report(
         alloc,
-        "plain elf order --regs",
-        &LOOP,
-        b"rounds 3\n",
-        NO_FAULTS,
+        b"end: limit hart 0\n",
+        b"hart 0 5 0000000080000000",
+        &[],
     )?;
-    compare(&rt, &ended, want, "three rounds");
-    assert_eq!(rt; code(&ended.status), 15);
-    let mut log = b"end: limit hart 0\n".to_vec(alloc)?;
-    push_hart(&mut log, b"hart 0 5 0000000080000000", &[])?;
-    let want = Want {
-        status: Status::Limit(0),
-        out: b"",
-        log: &log,
-    };
     let line = "plain elf order --limit 5 --regs";
     let ended = run(alloc, line, &LOOP, b"turn 0 100\n", NO_FAULTS)?;
-    compare(&rt, &ended, want, "a limit of five");
-    assert_eq!(rt; code(&ended.status), 12);
+    ends_silently(&rt, &ended, Status::Limit(0), 12, &log, "a limit of five");
     let ended = run(alloc, line, &LOOP, b"turn 0 5\n", NO_FAULTS)?;
-    compare(&rt, &ended, want, "at the last turn");
-    let mut log = b"end: limit hart 0\n".to_vec(alloc)?;
-    let registers = [(5, b"8000000000000000")];
-    push_hart(&mut log, b"hart 0 1000 0000000000000000", &registers)?;
-    let want = Want {
-        status: Status::Limit(0),
-        out: b"",
-        log: &log,
-    };
+    ends_silently(&rt, &ended, Status::Limit(0), 12, &log, "at the last turn");
+    Ok(())
+}
+
+#[test]
+fn faults_count_to_the_limit(rt: HostRuntime) -> Result<(), Fail> {
+    let alloc = rt.alloc();
+    let log = report(
+        alloc,
+        b"end: limit hart 0\n",
+        b"hart 0 1000 0000000000000000",
+        &[(5, b"8000000000000000")],
+    )?;
     let line = "plain elf order --limit=1000 --regs";
     let ended = run(alloc, line, &NO_ROOT, b"turn 0 2000\n", NO_FAULTS)?;
-    compare(&rt, &ended, want, "faults count");
+    ends_silently(&rt, &ended, Status::Limit(0), 12, &log, "faults count");
     Ok(())
 }
 

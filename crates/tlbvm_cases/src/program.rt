@@ -1,6 +1,8 @@
 // Runs of whole programs to their end, and what the program says of each end.
 use crate::guests::{HELLO, RAM, elf};
 use crate::whole::{NO_FAULTS, PLAIN, Want, call, compare, files};
+use std::alloc::{AllocError, Global};
+use std::process::Abort;
 use std::test::Fail;
 use tlbvm::{BadImage, Status, code, status_line};
 
@@ -16,11 +18,13 @@ struct Case<'a> {
     want: Want<'a>,
 }
 
-const PASS: Want<'static> = Want {
-    status: Status::Done,
-    out: b"OK\n",
-    log: b"end: pass\n",
-};
+fn passed(out: &[u8]) -> Want<'_> {
+    Want {
+        status: Status::Done,
+        out,
+        log: b"end: pass\n",
+    }
+}
 
 fn order_ended(out: &[u8]) -> Want<'_> {
     Want {
@@ -50,11 +54,76 @@ fn at_the_end<'a>(what: &'a str, words: &'a [u32], order: &'a [u8], want: Want<'
     }
 }
 
+fn all_end(rt: &impl Abort, alloc: Global, cases: &[Case<'_>]) -> Result<(), AllocError> {
+    for case in cases {
+        let files = files(
+            alloc,
+            elf(alloc, case.place, case.words)?,
+            case.order.to_vec(alloc)?,
+        )?;
+        let ended = call(alloc, PLAIN, files, NO_FAULTS)?;
+        compare(rt, &ended, case.want, case.what);
+    }
+    Ok(())
+}
+
 #[test]
-fn machines_end(rt: HostRuntime) -> Result<(), Fail> {
-    let alloc = rt.alloc();
+fn hello_ends(rt: HostRuntime) -> Result<(), Fail> {
+    let cases = [
+        at_start("hello", &HELLO, b"turn 0 100\n", passed(b"OK\n")),
+        at_start(
+            "hello, no line feed",
+            &HELLO,
+            b"turn 0 100",
+            passed(b"OK\n"),
+        ),
+        at_start(
+            "hello, the most turns",
+            &HELLO,
+            b"turn 0 1000000\n",
+            passed(b"OK\n"),
+        ),
+        at_start(
+            "hello, its own turns",
+            &HELLO,
+            b"turn 0 11\n",
+            passed(b"OK\n"),
+        ),
+        at_start(
+            "hello, 10 turns",
+            &HELLO,
+            b"turn 0 10\n",
+            order_ended(b"OK\n"),
+        ),
+        at_start("hello, 5 turns", &HELLO, b"turn 0 5\n", order_ended(b"OK")),
+        at_start(
+            "20 digits",
+            &HELLO,
+            b"turn 0 00000000000000000005",
+            order_ended(b"OK"),
+        ),
+    ];
+    all_end(&rt, rt.alloc(), &cases)?;
+    Ok(())
+}
+
+#[test]
+fn words_of_code_end(rt: HostRuntime) -> Result<(), Fail> {
     let add = [0x04f0_0313]; // addi x6, x0, 'O'
     let product = [0x0252_82b3]; // mul x5, x5, x5
+    let cases = [
+        at_start("a product", &product, b"turn 0 1\n", order_ended(b"")),
+        at_start("before a zero word", &add, b"turn 0 1\n", order_ended(b"")),
+        at_start("a zero word", &add, b"turn 0 2\n", order_ended(b"")),
+        at_the_end("RAM's last word", &add, b"turn 0 1\n", order_ended(b"")),
+        at_the_end("behind RAM", &add, b"turn 0 2\n", order_ended(b"")),
+    ];
+    all_end(&rt, rt.alloc(), &cases)?;
+    Ok(())
+}
+
+#[test]
+fn stores_have_places(rt: HostRuntime) -> Result<(), Fail> {
     let no_device = [0x0000_12b7, 0x0062_8023]; // lui x5, 1; sb x6, 0(x5)
     let far = [0x8000_02b7, 0x0062_8023]; // lui x5, 0x80000, which extends the sign; sb x6, 0(x5)
     let uart_word = [0x1000_02b7, 0x0062_a023]; // lui x5, 0x10000; sw x6, 0(x5)
@@ -71,30 +140,7 @@ fn machines_end(rt: HostRuntime) -> Result<(), Fail> {
         0x5553_0313,
         0x0062_a023,
     ];
-    let silent = Want { out: b"", ..PASS };
     let cases = [
-        at_start("hello", &HELLO, b"turn 0 100\n", PASS),
-        at_start("hello, no line feed", &HELLO, b"turn 0 100", PASS),
-        at_start("hello, the most turns", &HELLO, b"turn 0 1000000\n", PASS),
-        at_start("hello, its own turns", &HELLO, b"turn 0 11\n", PASS),
-        at_start(
-            "hello, 10 turns",
-            &HELLO,
-            b"turn 0 10\n",
-            order_ended(b"OK\n"),
-        ),
-        at_start("hello, 5 turns", &HELLO, b"turn 0 5\n", order_ended(b"OK")),
-        at_start(
-            "20 digits",
-            &HELLO,
-            b"turn 0 00000000000000000005",
-            order_ended(b"OK"),
-        ),
-        at_start("a product", &product, b"turn 0 1\n", order_ended(b"")),
-        at_start("before a zero word", &add, b"turn 0 1\n", order_ended(b"")),
-        at_start("a zero word", &add, b"turn 0 2\n", order_ended(b"")),
-        at_the_end("RAM's last word", &add, b"turn 0 1\n", order_ended(b"")),
-        at_the_end("behind RAM", &add, b"turn 0 2\n", order_ended(b"")),
         at_start("no device", &no_device, b"turn 0 100\n", order_ended(b"")),
         at_start("far above RAM", &far, b"turn 0 100\n", order_ended(b"")),
         at_start(
@@ -114,20 +160,10 @@ fn machines_end(rt: HostRuntime) -> Result<(), Fail> {
             "a finisher value without effect",
             &seven,
             b"turn 0 100\n",
-            silent,
+            passed(b""),
         ),
     ];
-    for Case {
-        what,
-        place,
-        words,
-        order,
-        want,
-    } in cases {
-        let files = files(alloc, elf(alloc, place, words)?, order.to_vec(alloc)?)?;
-        let ended = call(alloc, PLAIN, files, NO_FAULTS)?;
-        compare(&rt, &ended, want, what);
-    }
+    all_end(&rt, rt.alloc(), &cases)?;
     Ok(())
 }
 
@@ -171,6 +207,11 @@ fn an_absent_call_is_no_end(rt: HostRuntime) -> Result<(), Fail> {
     Ok(())
 }
 
+fn says(rt: &impl Abort, status: Status, exit: u8, line: &str) {
+    assert_eq!(rt; code(&status), exit, "{line}");
+    assert_eq!(rt; status_line(&status).as_str(), line);
+}
+
 #[test]
 fn statuses_have_codes_and_lines(rt: HostRuntime) {
     for (status, exit, line) in [
@@ -189,13 +230,12 @@ fn statuses_have_codes_and_lines(rt: HostRuntime) {
         (Status::OrderEnd, 15, "order ended"),
         (Status::Stopped, 16, "stopped"),
     ] {
-        assert_eq!(rt; code(&status), exit, "{line}");
-        assert_eq!(rt; status_line(&status).as_str(), line);
+        says(&rt, status, exit, line);
     }
 }
 
 #[test]
-fn numbers_stand_in_lines(rt: HostRuntime) {
+fn kinds_of_images_have_numbers(rt: HostRuntime) {
     for (status, exit, line) in [
         (Status::BadImage(BadImage::Short), 5, "bad image: kind 1"),
         (Status::BadImage(BadImage::NotElf), 5, "bad image: kind 2"),
@@ -217,6 +257,14 @@ fn numbers_stand_in_lines(rt: HostRuntime) {
             5,
             "bad image: kind 8",
         ),
+    ] {
+        says(&rt, status, exit, line);
+    }
+}
+
+#[test]
+fn numbers_stand_in_lines(rt: HostRuntime) {
+    for (status, exit, line) in [
         (Status::BadOrder(1), 6, "bad order: line 1"),
         (
             Status::BadOrder(18446744073709551615),
@@ -228,7 +276,6 @@ fn numbers_stand_in_lines(rt: HostRuntime) {
         (Status::GuestFailed(65535), 11, "guest failed: 65535"),
         (Status::Limit(3), 12, "limit: hart 3"),
     ] {
-        assert_eq!(rt; code(&status), exit, "{line}");
-        assert_eq!(rt; status_line(&status).as_str(), line);
+        says(&rt, status, exit, line);
     }
 }

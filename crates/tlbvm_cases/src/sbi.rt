@@ -264,6 +264,15 @@ pub(crate) fn turn_times(machine: &mut PlainMachine, hart: u8, turns: u64) -> Op
     answer
 }
 
+/// Takes so many turns of a hart, behind which the machine goes on.
+fn go_on(rt: &impl Abort, machine: &mut PlainMachine, hart: u8, turns: u64)
+    requires { hart < machine.old.shared.layout.harts }
+    ensures { machine.new.shared.layout.harts ≡ machine.old.shared.layout.harts }
+{
+    let answer = turn_times(machine, hart, turns);
+    assert_eq!(rt; answer, None, "{turns} turns of hart {hart}");
+}
+
 /// Takes a hart's turns up to its next call.
 fn come_to_call(machine: &mut PlainMachine, hart: u8)
     requires { hart < machine.old.shared.layout.harts }
@@ -294,29 +303,35 @@ fn csrs_of(machine: &PlainMachine, hart: u8) -> [u64; 8]
     ]
 }
 
+/// A hart's registers, CSRs, pc, count, and whether it is in user mode.
+type Shown = ([u64; 32], [u64; 8], u64, u64, bool);
+
+fn shown_of(machine: &PlainMachine, hart: u8) -> Shown
+    requires { hart < machine.now.shared.layout.harts }
+{
+    let arch = machine.arch(hart);
+    let count = machine.count(hart);
+    (arch.x, csrs_of(machine, hart), arch.pc, count, arch.user)
+}
+
 /// A hart makes its next call, which comes to what is wanted and changes nothing else of it.
 fn take_step(rt: &impl Abort, machine: &mut PlainMachine, hart: u8, call: Call, want: Want)
     requires { hart < machine.old.shared.layout.harts }
     ensures { machine.new.shared.layout.harts ≡ machine.old.shared.layout.harts }
 {
     come_to_call(machine, hart);
-    let before = machine.arch(hart);
-    assert_eq!(rt; before.pc, CALL_PC, "begin: hart {hart}, {call:?}");
-    let x = registers_behind(before.x, want);
-    let csrs = csrs_of(machine, hart);
-    let count = machine.count(hart);
+    let (x, csrs, pc, count, _) = shown_of(machine, hart);
+    assert_eq!(rt; pc, CALL_PC, "begin: hart {hart}, {call:?}");
     let answer = machine.turn(hart);
     assert_eq!(rt; answer, reason_of(want), "reason: hart {hart}, {call:?}");
-    let after = machine.arch(hart);
-    assert_eq!(rt; after.x, x, "registers: hart {hart}, {call:?}");
-    assert_eq!(rt; after.pc, CALL_PC + 4, "pc: hart {hart}, {call:?}");
-    assert_eq!(rt; csrs_of(machine, hart), csrs, "CSRs: hart {hart}, {call:?}");
-    assert!(rt; !after.user, "mode: hart {hart}, {call:?}");
-    assert_eq!(rt;
-        machine.count(hart),
+    let behind = (
+        registers_behind(x, want),
+        csrs,
+        CALL_PC + 4,
         count.saturating_add(1),
-        "count: hart {hart}, {call:?}"
+        false,
     );
+    assert_eq!(rt; shown_of(machine, hart), behind, "hart {hart}, {call:?}");
 }
 
 /// The machine behind these steps, each of which comes to what is wanted.
@@ -338,4 +353,14 @@ fn play(
         take_step(rt, &mut machine, *hart, *call, *want);
     }
     Ok(machine)
+}
+
+/// The same, where the machine itself isn't looked at.
+fn plays(rt: &impl Abort, alloc: Global, harts: u8, limit: u64, steps: &[Step]) -> Result<(), Fail>
+    requires some { 1 ≤ harts }
+    requires most { harts ≤ 8 }
+    requires limit { 0 < limit }
+{
+    play(rt, alloc, harts, limit, steps)?;
+    Ok(())
 }

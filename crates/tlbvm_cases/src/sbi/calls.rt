@@ -5,7 +5,7 @@ use super::Error::{AlreadyAvailable, InvalidAddress, InvalidParam, NotSupported}
 use super::Want::{Ends, Fails, Gives, LegacyFails};
 use super::{
     ALL, BASE, BEGIN, Call, DBCN, FAR, FIRST_CALL, HSM, IPI, RFENCE, SHUTDOWN, SRST, Step, VERSION,
-    Want, machine_with, play,
+    Want, machine_with, play, plays,
 };
 use crate::guests::RAM;
 use ref_machine::Reason;
@@ -214,8 +214,7 @@ pub(super) fn rows_answer(
     for (function, args, want) in rows {
         steps.push(step(extension, *function, *args, *want))?;
     }
-    play(rt, alloc, harts, FAR, &steps)?;
-    Ok(())
+    plays(rt, alloc, harts, FAR, &steps)
 }
 
 #[test]
@@ -257,9 +256,8 @@ fn extensions_are_probed(rt: HostRuntime) -> Result<(), Fail> {
     rows_answer(&rt, alloc, 4, BASE, &rows)
 }
 
-#[test]
-fn absent_calls_are_not_supported(rt: HostRuntime) -> Result<(), Fail> {
-    let alloc = rt.alloc();
+/// Calls of extensions and functions that there are not.
+fn absent_steps(alloc: Global) -> Result<Vec<Step>, AllocError> {
     let mut steps = Vec::new(alloc);
     for extension in NO_LEGACY {
         for function in [0, 1, ALL] {
@@ -274,11 +272,24 @@ fn absent_calls_are_not_supported(rt: HostRuntime) -> Result<(), Fail> {
     for (extension, function) in OTHER_FUNCTIONS {
         steps.push(step(extension, function, [1, 0, 0, 0], Fails(NotSupported)))?;
     }
-    let machine = play(&rt, alloc, 1, FAR, &steps)?;
-    assert!(rt; machine.console().is_empty());
-    let machine = play(&rt, alloc, 4, FAR, &steps)?;
+    Ok(steps)
+}
+
+fn prints_nothing(rt: &impl Abort, alloc: Global, harts: u8, steps: &[Step]) -> Result<(), Fail>
+    requires some { 1 ≤ harts }
+    requires most { harts ≤ 8 }
+{
+    let machine = play(rt, alloc, harts, FAR, steps)?;
     assert!(rt; machine.console().is_empty());
     Ok(())
+}
+
+#[test]
+fn absent_calls_are_not_supported(rt: HostRuntime) -> Result<(), Fail> {
+    let alloc = rt.alloc();
+    let steps = absent_steps(alloc)?;
+    prints_nothing(&rt, alloc, 1, &steps)?;
+    prints_nothing(&rt, alloc, 4, &steps)
 }
 
 #[test]
@@ -286,7 +297,7 @@ fn calls_end_the_machine(rt: HostRuntime) -> Result<(), Fail> {
     let alloc = rt.alloc();
     for (extension, args, reason) in ENDINGS {
         let steps = [step(extension, 0, args, Ends(reason))];
-        play(&rt, alloc, 1, FAR, &steps)?;
+        plays(&rt, alloc, 1, FAR, &steps)?;
         let mut machine = play(&rt, alloc, 4, FAR, &steps)?;
         let answers = [
             machine.turn(0),
@@ -319,6 +330,5 @@ fn a_first_call_is_not_supported(rt: HostRuntime) -> Result<(), Fail> {
 #[test]
 fn legacy_calls_have_no_function(rt: HostRuntime) -> Result<(), Fail> {
     let steps = [step(SHUTDOWN, 7, NO_ARGS, Ends(Reason::Pass))];
-    play(&rt, rt.alloc(), 1, FAR, &steps)?;
-    Ok(())
+    plays(&rt, rt.alloc(), 1, FAR, &steps)
 }

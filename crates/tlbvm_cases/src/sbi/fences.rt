@@ -1,12 +1,14 @@
 // Remote fences and the masks of harts, and translations that another hart changes.
-ghost use Rattle.std.specs.Prelude.{◌≡◌};
+ghost use Rattle.std.specs.Prelude.{◌<◌};
 
 use super::Error::{InvalidAddress, InvalidParam};
 use super::Want::{Fails, Gives, Stops};
 use super::calls::{Row, UPPER, rows_answer};
-use super::{ALL, Call, FAR, IPI, RFENCE, STOP, Want, play, start, turn_times};
+use super::{ALL, Call, FAR, IPI, RFENCE, STOP, Want, go_on, play, start};
 use crate::supervisor::machine_of;
+use ref_machine::PlainMachine;
 use std::alloc::{AllocError, Global};
+use std::process::Abort;
 use std::test::Fail;
 
 /// A mask of harts and its base, and whether all that they name are there.
@@ -198,20 +200,24 @@ const TWO_HARTS: [u32; 20] = [
     0x0003_b503, // ld x10, 0(x7)
 ];
 
+/// A hart's pc, satp and x10.
+fn compare(rt: &impl Abort, machine: &PlainMachine, hart: u8, want: (u64, u64, u64))
+    requires { hart < machine.now.shared.layout.harts }
+{
+    let arch = machine.arch(hart);
+    assert_eq!(rt; (arch.pc, arch.satp, arch.x[10]), want, "hart {hart}");
+}
+
 #[test]
 fn harts_translate_by_one_memory(rt: HostRuntime) -> Result<(), Fail> {
     let mut machine = machine_of(rt.alloc(), 2, &TWO_HARTS)?;
-    assert_eq!(rt; turn_times(&mut machine, 0, 6), None);
-    assert_eq!(rt; turn_times(&mut machine, 1, 9), None);
-    assert_eq!(rt; machine.arch(1).pc, 0x8000_004c);
-    assert_eq!(rt; machine.arch(1).satp, 0x8000_0000_0008_0010);
-    assert_eq!(rt; machine.arch(1).x[10], 0x11);
-    assert_eq!(rt; turn_times(&mut machine, 0, 4), None);
-    assert_eq!(rt; machine.arch(0).pc, 0x8000_0028);
-    assert_eq!(rt; machine.arch(0).satp, 0);
-    assert_eq!(rt; machine.turn(1), None);
-    assert_eq!(rt; machine.arch(1).pc, 0x8000_0050);
-    assert_eq!(rt; machine.arch(1).x[10], 0x22);
+    go_on(&rt, &mut machine, 0, 6);
+    go_on(&rt, &mut machine, 1, 9);
+    compare(&rt, &machine, 1, (0x8000_004c, 0x8000_0000_0008_0010, 0x11));
+    go_on(&rt, &mut machine, 0, 4);
+    compare(&rt, &machine, 0, (0x8000_0028, 0, 0));
+    go_on(&rt, &mut machine, 1, 1);
+    compare(&rt, &machine, 1, (0x8000_0050, 0x8000_0000_0008_0010, 0x22));
     assert_eq!(rt; machine.arch(1).scause, 0);
     assert_eq!(rt; (machine.count(0), machine.count(1)), (10, 9));
     Ok(())

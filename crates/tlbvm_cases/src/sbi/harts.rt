@@ -5,8 +5,8 @@ ghost use Rattle.std.specs.Prelude.{◌≡◌, ◌<◌};
 use super::Error::{AlreadyAvailable, InvalidAddress, InvalidParam};
 use super::Want::{Ends, Fails, Gives, Stops};
 use super::{
-    ASK, BEGIN, FAR, FIRST_CALL, STOP, VERSION, csrs_of, play, start, start_at, start_from, status,
-    turn_times,
+    ASK, BEGIN, FAR, FIRST_CALL, STOP, VERSION, Want, csrs_of, go_on, play, plays, start, start_at,
+    start_from, status, turn_times,
 };
 use crate::guests::RAM;
 use crate::supervisor::machine_of;
@@ -51,8 +51,7 @@ fn harts_go_through_their_states(rt: HostRuntime) -> Result<(), Fail> {
         (1, status(0), Gives(0)),
         (0, status(1), Gives(0)),
     ];
-    play(&rt, rt.alloc(), 2, FAR, &steps)?;
-    Ok(())
+    plays(&rt, rt.alloc(), 2, FAR, &steps)
 }
 
 // Hart 0 is as any other: another starts it again.
@@ -76,32 +75,40 @@ fn the_first_hart_stops_and_starts(rt: HostRuntime) -> Result<(), Fail> {
     Ok(())
 }
 
+const ALL_STOPPED: Want = Ends(Reason::AllStopped);
+
 #[test]
-fn the_last_to_stop_ends_the_machine(rt: HostRuntime) -> Result<(), Fail> {
-    let alloc = rt.alloc();
-    let end = Ends(Reason::AllStopped);
-    let alone = [(0, STOP, end)];
-    let mut machine = play(&rt, alloc, 1, FAR, &alone)?;
+fn a_lone_hart_ends_the_machine(rt: HostRuntime) -> Result<(), Fail> {
+    let steps = [(0, STOP, ALL_STOPPED)];
+    let mut machine = play(&rt, rt.alloc(), 1, FAR, &steps)?;
     assert_eq!(rt; turn_times(&mut machine, 0, 3), Some(Reason::AllStopped));
     compare(&rt, &machine, 0, 0x8000_002c, FIRST_CALL);
     // harts that were never started are stopped
-    play(&rt, alloc, 8, FAR, &alone)?;
+    plays(&rt, rt.alloc(), 8, FAR, &steps)
+}
+
+#[test]
+fn the_last_to_stop_ends_the_machine(rt: HostRuntime) -> Result<(), Fail> {
     let first_then_second = [
         (0, start(1), Gives(0)),
         (1, ASK, Gives(VERSION)),
         (0, STOP, Stops),
         (1, ASK, Gives(VERSION)),
-        (1, STOP, end),
+        (1, STOP, ALL_STOPPED),
     ];
-    play(&rt, alloc, 2, FAR, &first_then_second)?;
+    plays(&rt, rt.alloc(), 2, FAR, &first_then_second)?;
     let second_then_first = [
         (0, start(1), Gives(0)),
         (1, STOP, Stops),
         (0, ASK, Gives(VERSION)),
-        (0, STOP, end),
+        (0, STOP, ALL_STOPPED),
     ];
-    play(&rt, alloc, 2, FAR, &second_then_first)?;
-    let in_no_order = [
+    plays(&rt, rt.alloc(), 2, FAR, &second_then_first)
+}
+
+#[test]
+fn harts_stop_in_no_order(rt: HostRuntime) -> Result<(), Fail> {
+    let steps = [
         (0, start(3), Gives(0)),
         (3, start(1), Gives(0)),
         (1, start(2), Gives(0)),
@@ -109,10 +116,9 @@ fn the_last_to_stop_ends_the_machine(rt: HostRuntime) -> Result<(), Fail> {
         (1, STOP, Stops),
         (3, STOP, Stops),
         (0, STOP, Stops),
-        (2, STOP, end),
+        (2, STOP, ALL_STOPPED),
     ];
-    play(&rt, alloc, 4, FAR, &in_no_order)?;
-    Ok(())
+    plays(&rt, rt.alloc(), 4, FAR, &steps)
 }
 
 #[test]
@@ -132,23 +138,28 @@ fn a_pending_hart_keeps_the_machine(rt: HostRuntime) -> Result<(), Fail> {
 }
 
 #[test]
-fn stopped_harts_stand_still(rt: HostRuntime) -> Result<(), Fail> {
-    let alloc = rt.alloc();
-    let mut machine = play(&rt, alloc, 2, FAR, &[(0, status(1), Gives(1))])?;
-    assert_eq!(rt; turn_times(&mut machine, 1, 5), None);
+fn harts_that_never_began_stand_still(rt: HostRuntime) -> Result<(), Fail> {
+    let steps = [(0, status(1), Gives(1))];
+    let mut machine = play(&rt, rt.alloc(), 2, FAR, &steps)?;
+    go_on(&rt, &mut machine, 1, 5);
     compare(&rt, &machine, 1, 0, 0);
     compare(&rt, &machine, 0, 0x8000_002c, FIRST_CALL);
+    Ok(())
+}
+
+#[test]
+fn stopped_harts_stand_still(rt: HostRuntime) -> Result<(), Fail> {
     let steps = [
         (0, start(1), Gives(0)),
         (1, ASK, Gives(VERSION)),
         (1, STOP, Stops),
     ];
-    let mut machine = play(&rt, alloc, 2, FAR, &steps)?;
+    let mut machine = play(&rt, rt.alloc(), 2, FAR, &steps)?;
     let x = machine.arch(1).x;
-    assert_eq!(rt; turn_times(&mut machine, 1, 5), None);
+    go_on(&rt, &mut machine, 1, 5);
     compare(&rt, &machine, 1, 0x8000_002c, 22);
     assert_eq!(rt; machine.arch(1).x, x);
-    assert_eq!(rt; turn_times(&mut machine, 0, 5), None);
+    go_on(&rt, &mut machine, 0, 5);
     compare(&rt, &machine, 0, 0x8000_0010, 16);
     Ok(())
 }
@@ -161,13 +172,8 @@ fn harts_begin_with_two_registers(rt: HostRuntime) -> Result<(), Fail> {
         let steps = [(0, start_at(3, address, opaque), Gives(0))];
         let mut machine = play(&rt, rt.alloc(), 4, FAR, &steps)?;
         assert_eq!(rt; machine.count(3), 0);
-        assert_eq!(rt; machine.turn(3), None);
-        let mut x = [0; 32];
-        x[10] = 3;
-        x[11] = opaque;
-        assert_eq!(rt; machine.arch(3).x, x);
-        assert_eq!(rt; csrs_of(&machine, 3), [0; 8]);
-        assert!(rt; !machine.arch(3).user);
+        go_on(&rt, &mut machine, 3, 1);
+        compare_begin(&rt, &machine, 3, opaque);
         compare(&rt, &machine, 3, address, 0);
         compare(&rt, &machine, 0, 0x8000_002c, FIRST_CALL);
     }
@@ -231,35 +237,48 @@ fn first_life() -> [u64; 32] {
     x
 }
 
+/// Hart 1 is as its first life left it.
+fn compare_first_life(rt: &impl Abort, machine: &PlainMachine)
+    requires { 1 < machine.now.shared.layout.harts }
+{
+    let csrs = [ENABLED, 2, 0x8_0010, SV39, 0x8_0010, 1, 0x77, SV39];
+    assert_eq!(rt; machine.arch(1).x, first_life());
+    assert_eq!(rt; csrs_of(machine, 1), csrs);
+    compare(rt, machine, 1, 0x8000_0084, 20);
+}
+
+/// A hart has what it begins with: its number, and the other register that its start gave.
+fn compare_begin(rt: &impl Abort, machine: &PlainMachine, hart: u8, opaque: u64)
+    requires { hart < machine.now.shared.layout.harts }
+{
+    let mut x = [0; 32];
+    x[10] = u64::from(hart);
+    x[11] = opaque;
+    assert_eq!(rt; machine.arch(hart).x, x);
+    assert_eq!(rt; csrs_of(machine, hart), [0; 8]);
+    assert!(rt; !machine.arch(hart).user);
+}
+
 #[test]
 fn a_second_life_has_nothing_of_the_first(rt: HostRuntime) -> Result<(), Fail> {
     let mut machine = machine_of(rt.alloc(), 2, &TWICE)?;
-    assert_eq!(rt; turn_times(&mut machine, 0, 7), None);
+    go_on(&rt, &mut machine, 0, 7);
     // it begins, and takes 20 instructions, of which the last stops it
-    assert_eq!(rt; turn_times(&mut machine, 1, 21), None);
-    let csrs = [ENABLED, 2, 0x8_0010, SV39, 0x8_0010, 1, 0x77, SV39];
-    assert_eq!(rt; machine.arch(1).x, first_life());
-    assert_eq!(rt; csrs_of(&machine, 1), csrs);
-    compare(&rt, &machine, 1, 0x8000_0084, 20);
+    go_on(&rt, &mut machine, 1, 21);
+    compare_first_life(&rt, &machine);
     // a stopped hart takes no interrupt
-    assert_eq!(rt; turn_times(&mut machine, 0, 5), None);
+    go_on(&rt, &mut machine, 0, 5);
     assert_eq!(rt; machine.arch(0).x[10], 0);
-    assert_eq!(rt; turn_times(&mut machine, 1, 2), None);
-    assert_eq!(rt; machine.arch(1).x, first_life());
-    assert_eq!(rt; csrs_of(&machine, 1), csrs);
-    compare(&rt, &machine, 1, 0x8000_0084, 20);
+    go_on(&rt, &mut machine, 1, 2);
+    compare_first_life(&rt, &machine);
     // nor does a start that is pending change it yet
-    assert_eq!(rt; turn_times(&mut machine, 0, 8), None);
+    go_on(&rt, &mut machine, 0, 8);
     assert_eq!(rt; machine.arch(0).x[10], 0);
-    assert_eq!(rt; machine.arch(1).x, first_life());
-    assert_eq!(rt; machine.turn(1), None);
-    let mut x = [0; 32];
-    x[10] = 1;
-    x[11] = 0xee;
-    assert_eq!(rt; machine.arch(1).x, x);
-    assert_eq!(rt; csrs_of(&machine, 1), [0; 8]);
+    compare_first_life(&rt, &machine);
+    go_on(&rt, &mut machine, 1, 1);
+    compare_begin(&rt, &machine, 1, 0xee);
     compare(&rt, &machine, 1, 0x8000_0034, 20);
-    assert_eq!(rt; machine.turn(1), None);
+    go_on(&rt, &mut machine, 1, 1);
     compare(&rt, &machine, 1, 0x8000_0038, 21);
     Ok(())
 }
@@ -294,14 +313,14 @@ fn a_pending_hart_is_kept_at_the_end(rt: HostRuntime) -> Result<(), Fail> {
 #[test]
 fn a_stop_of_all_comes_before_the_limit(rt: HostRuntime) -> Result<(), Fail> {
     let alloc = rt.alloc();
-    play(
+    plays(
         &rt,
         alloc,
         1,
         FIRST_CALL,
         &[(0, STOP, Ends(Reason::AllStopped))],
     )?;
-    play(
+    plays(
         &rt,
         alloc,
         4,
@@ -310,12 +329,12 @@ fn a_stop_of_all_comes_before_the_limit(rt: HostRuntime) -> Result<(), Fail> {
     )?;
     // where another hart is pending, or runs, the limit is reached by a hart that stops
     let steps = [(0, start(1), Gives(0)), (0, STOP, Ends(Reason::Limit(0)))];
-    play(&rt, alloc, 2, 23, &steps)?;
+    plays(&rt, alloc, 2, 23, &steps)?;
     let steps = [
         (0, start(1), Gives(0)),
         (1, ASK, Gives(VERSION)),
         (0, STOP, Ends(Reason::Limit(0))),
     ];
-    play(&rt, alloc, 2, 23, &steps)?;
+    plays(&rt, alloc, 2, 23, &steps)?;
     Ok(())
 }

@@ -4,7 +4,7 @@ ghost use Rattle.std.specs.Prelude.{◌≡◌, ◌<◌};
 
 use super::Error::InvalidParam;
 use super::Want::{Fails, Gives, Stops};
-use super::{ALL, ASK, FAR, STOP, VERSION, Want, machine_with, play, send, start, turn_times};
+use super::{ALL, ASK, FAR, STOP, VERSION, Want, go_on, machine_with, play, send, start};
 use crate::guests::RAM;
 use ref_machine::PlainMachine;
 use std::alloc::Global;
@@ -30,29 +30,32 @@ const SELF: [u32; 9] = [
     0x0000_0073, // ecall
 ];
 
+/// A hart's pc, x10, scause and count.
+fn compare(rt: &impl Abort, machine: &PlainMachine, hart: u8, want: (u64, u64, u64, u64))
+    requires { hart < machine.now.shared.layout.harts }
+{
+    let arch = machine.arch(hart);
+    let found = (arch.pc, arch.x[10], arch.scause, machine.count(hart));
+    assert_eq!(rt; found, want, "hart {hart}");
+}
+
 #[test]
 fn a_hart_interrupts_itself(rt: HostRuntime) -> Result<(), Fail> {
     let segments = [(RAM, SELF.as_slice())];
     let mut machine = machine_with(rt.alloc(), 1, FAR, &segments)?;
-    assert_eq!(rt; turn_times(&mut machine, 0, 8), None);
-    assert_eq!(rt; machine.arch(0).pc, 0x8000_0020);
-    assert_eq!(rt; machine.arch(0).x[10], 1);
-    assert_eq!(rt; machine.turn(0), None);
-    let arch = machine.arch(0);
-    assert_eq!(rt; arch.pc, 0x8000_0024);
-    assert_eq!(rt; (arch.x[10], arch.x[11]), (0, 0));
-    assert_eq!(rt; arch.scause, 0);
-    assert_eq!(rt; machine.count(0), 9);
-    assert_eq!(rt; machine.turn(0), None);
-    let arch = machine.arch(0);
-    assert_eq!(rt; arch.pc, 0x8000_0104);
-    assert_eq!(rt;
-        (arch.scause, arch.sepc, arch.stval),
-        (SOFTWARE, 0x8000_0024, 0)
-    );
-    assert_eq!(rt; arch.sstatus, TRAPPED);
+    go_on(&rt, &mut machine, 0, 8);
+    compare(&rt, &machine, 0, (0x8000_0020, 1, 0, 8));
+    go_on(&rt, &mut machine, 0, 1);
+    compare(&rt, &machine, 0, (0x8000_0024, 0, 0, 9));
+    assert_eq!(rt; machine.arch(0).x[11], 0);
     // an interrupt is no instruction
-    assert_eq!(rt; machine.count(0), 9);
+    go_on(&rt, &mut machine, 0, 1);
+    compare(&rt, &machine, 0, (0x8000_0104, 0, SOFTWARE, 9));
+    let arch = machine.arch(0);
+    assert_eq!(rt;
+        (arch.sepc, arch.stval, arch.sstatus),
+        (0x8000_0024, 0, TRAPPED)
+    );
     Ok(())
 }
 
@@ -84,27 +87,23 @@ const ACROSS: [u32; 20] = [
 fn a_hart_interrupts_another(rt: HostRuntime) -> Result<(), Fail> {
     let segments = [(RAM, ACROSS.as_slice())];
     let mut machine = machine_with(rt.alloc(), 2, FAR, &segments)?;
-    assert_eq!(rt; turn_times(&mut machine, 0, 6), None);
+    go_on(&rt, &mut machine, 0, 6);
     // it begins, and takes seven instructions
-    assert_eq!(rt; turn_times(&mut machine, 1, 8), None);
-    assert_eq!(rt; machine.arch(1).pc, 0x8000_0048);
-    assert_eq!(rt; turn_times(&mut machine, 0, 6), None);
+    go_on(&rt, &mut machine, 1, 8);
+    compare(&rt, &machine, 1, (0x8000_0048, 1, 0, 7));
+    go_on(&rt, &mut machine, 0, 6);
+    compare(&rt, &machine, 0, (0x8000_0030, 0, 0, 12));
     let arch = machine.arch(0);
-    assert_eq!(rt;
-        (arch.pc, arch.x[10], arch.x[11], arch.x[9]),
-        (0x8000_0030, 0, 0, 0)
-    );
-    assert_eq!(rt; machine.arch(1).scause, 0);
-    assert_eq!(rt; machine.turn(1), None);
+    assert_eq!(rt; (arch.x[11], arch.x[9]), (0, 0));
+    compare(&rt, &machine, 1, (0x8000_0048, 1, 0, 7));
+    go_on(&rt, &mut machine, 1, 1);
+    compare(&rt, &machine, 1, (0x8000_0104, 1, SOFTWARE, 7));
     let arch = machine.arch(1);
-    assert_eq!(rt; arch.pc, 0x8000_0104);
     assert_eq!(rt;
-        (arch.scause, arch.sepc, arch.stval),
-        (SOFTWARE, 0x8000_0048, 0)
+        (arch.sepc, arch.stval, arch.sstatus, arch.x[6]),
+        (0x8000_0048, 0, TRAPPED, 1)
     );
-    assert_eq!(rt; (arch.sstatus, arch.x[6]), (TRAPPED, 1));
-    assert_eq!(rt; (machine.count(0), machine.count(1)), (12, 7));
-    assert_eq!(rt; machine.arch(0).scause, 0);
+    compare(&rt, &machine, 0, (0x8000_0030, 0, 0, 12));
     Ok(())
 }
 

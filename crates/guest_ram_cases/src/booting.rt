@@ -1,0 +1,61 @@
+// What the loader stores before harts make steps, but for RAM.
+ghost use Rattle.std.specs.Prelude.{◌≡◌, ◌<◌, ◌+◌, ◌*◌, true};
+ghost use Rattle.step_laws.specs.Discipline.{IsBooted};
+ghost use Rattle.step_laws.specs.Record.{is_first_slot};
+ghost use Rattle.guest_ram.specs.Ports.{IsBooting, GoesBy};
+ghost use Rattle.guest_ram_cases.specs.Booted.{IsClear, IsHartBooted};
+
+use guest_ram::Port;
+use step_laws::{TlbField, hsm_word, live_word, size_word, tlb_word};
+
+/// Makes a slot of a hart's TLB invalid.
+#[tactic(auto, using(guest_ram::proofs::MaySteps::boot_kinds))]
+fn clear_slot<P: Port>(port: &mut P, hart: u8, slot: u16)
+    requires booting { IsBooting (P.shows port.old) }
+    requires hart { hart < (P.shows port.old).layout.harts }
+    requires slot { is_first_slot slot ≡ true }
+    requires small { slot < 1032 }
+    ensures booting { IsBooting (P.shows port.new) }
+    ensures clear { IsClear hart slot (P.shows port.new).own.steps }
+    ensures goes { GoesBy 3 (P.shows port.old) (P.shows port.new) }
+{
+    port.store(tlb_word(hart, slot, TlbField::Read), 1);
+    port.store(tlb_word(hart, slot, TlbField::Write), 1);
+    port.store(tlb_word(hart, slot, TlbField::Code), 1);
+}
+
+/// Gives a hart an empty TLB of 64 slots.
+#[tactic(auto, using(guest_ram::proofs::MaySteps::boot_kinds))]
+fn boot_table<P: Port>(port: &mut P, hart: u8)
+    requires booting { IsBooting (P.shows port.old) }
+    requires hart { hart < (P.shows port.old).layout.harts }
+    ensures booting { IsBooting (P.shows port.new) }
+    ensures booted { IsHartBooted hart (P.shows port.new).own.steps }
+    ensures goes { GoesBy 217 (P.shows port.old) (P.shows port.new) }
+{
+    port.store(size_word(hart), 64);
+    for slot in 0..64 {
+        clear_slot(port, hart, slot);
+    }
+    for victim in 1024..1032 {
+        clear_slot(port, hart, victim);
+    }
+}
+
+/// Stores all that harts and the monitor need to begin, but for RAM.
+#[tactic(auto, using(guest_ram::proofs::MaySteps::boot_kinds))]
+pub fn boot_words<P: Port>(port: &mut P)
+    requires booting { IsBooting (P.shows port.old) }
+    ensures booting { IsBooting (P.shows port.new) }
+    ensures booted { IsBooted (P.shows port.new).layout (P.shows port.new).own.steps }
+    ensures goes { GoesBy 1745 (P.shows port.old) (P.shows port.new) }
+{
+    let harts = port.layout().harts;
+    port.store(live_word(), 1);
+    for stopped in 1..harts {
+        port.store(hsm_word(stopped), 1);
+    }
+    for hart in 0..harts {
+        boot_table(port, hart);
+    }
+}

@@ -1,0 +1,44 @@
+// Entering, so that no other actor is in a section of its own, and leaving.
+ghost use Rattle.std.specs.Prelude.{◌≡◌, ◌≢◌, OnOk, IfErr};
+ghost use Rattle.step_laws.specs.Map.{Pend, name_of};
+ghost use Rattle.step_laws.specs.Record.{phase, inside, outside};
+ghost use Rattle.guest_ram.specs.Ports.{IsActing, GoesBy};
+
+use guest_ram::{Port, Seen};
+use step_laws::{pend_word, run_word};
+
+/// Enters, or answers what stood in PEND and is outside again.
+#[tactic(auto, using(guest_ram::proofs::MaySteps::kinds, guest_ram::proofs::Moves::actor_few))]
+pub fn enter<P: Port>(port: &mut P) -> Result<(), Seen>
+    requires acting { IsActing (P.shows port.old) }
+    requires outside { phase (P.shows port.old).own.steps ≡ outside }
+    ensures entered { OnOk result (phase (P.shows port.new).own.steps ≡ inside) }
+    ensures refused { IfErr result (λ seen. (name_of seen.word ≡ Pend) × (seen.value ≢ 0) × (phase (P.shows port.new).own.steps ≡ outside)) }
+    ensures acting { IsActing (P.shows port.new) }
+    ensures goes { GoesBy 3 (P.shows port.old) (P.shows port.new) }
+{
+    let own = run_word(port.actor());
+    let pend = pend_word();
+    port.store(own, 1);
+    let found = port.load(pend);
+    if found != 0 {
+        port.store(own, 0);
+        return Err(Seen {
+            word: pend,
+            value: found,
+        });
+    }
+    Ok(())
+}
+
+/// Leaves.
+#[tactic(auto, using(guest_ram::proofs::MaySteps::kinds, guest_ram::proofs::Moves::actor_few))]
+pub fn leave<P: Port>(port: &mut P)
+    requires acting { IsActing (P.shows port.old) }
+    ensures left { phase (P.shows port.new).own.steps ≡ outside }
+    ensures acting { IsActing (P.shows port.new) }
+    ensures goes { GoesBy 1 (P.shows port.old) (P.shows port.new) }
+{
+    let run = run_word(port.actor());
+    port.store(run, 0)
+}

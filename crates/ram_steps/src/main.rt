@@ -1,0 +1,28 @@
+//! Loads or stores the first words of RAM again and again, by a port of the machine's table or in plain atomic words, and prints
+//! the sum of what was found. The command line says how: `stores` and not loads, `atomics` and not a port, and how often.
+#![tactic(auto)]
+
+mod atomics;
+mod ports;
+
+use std::{env, io};
+
+fn main(rt: HostRuntime) -> io::Result<()> {
+    let alloc = rt.alloc();
+    let mut atomics = false;
+    let mut stores = false;
+    let mut rounds = 1;
+    for word in env::args(&rt)?.skip(1) {
+        match word.as_str() {
+            "atomics" => atomics = true,
+            "stores" => stores = true,
+            number => rounds = number.parse::<u32>().unwrap_or(1),
+        }
+    }
+    let sum = if atomics {
+        atomics::sum(alloc, rounds, stores)?
+    } else {
+        ports::sum(alloc, rounds, stores)?
+    };
+    println!(rt; "{sum}")
+}
