@@ -1,8 +1,9 @@
 // Entering, so that no other actor is in a section of its own, and leaving.
-ghost use Rattle.std.specs.Prelude.{◌≡◌, ◌≢◌, OnOk, IfErr};
+ghost use Rattle.std.specs.Prelude.{◌≡◌, OnOk, IfErr};
 ghost use Rattle.step_laws.specs.Map.{Pend, name_of};
 ghost use Rattle.step_laws.specs.Record.{phase, inside, outside};
 ghost use Rattle.guest_ram.specs.Ports.{IsActing, GoesBy};
+ghost use Rattle.guest_ram_cases.specs.Made.{HasEntered, HasGivenUp, HasLeft};
 
 use guest_ram::{Port, Seen};
 use step_laws::{pend_word, run_word};
@@ -12,8 +13,10 @@ use step_laws::{pend_word, run_word};
 pub fn enter<P: Port>(port: &mut P) -> Result<(), Seen>
     requires acting { IsActing (P.shows port.old) }
     requires outside { phase (P.shows port.old).own.steps ≡ outside }
-    ensures entered { OnOk result (phase (P.shows port.new).own.steps ≡ inside) }
-    ensures refused { IfErr result (λ seen. (name_of seen.word ≡ Pend) × (seen.value ≢ 0) × (phase (P.shows port.new).own.steps ≡ outside)) }
+    ensures entered { OnOk result (HasEntered (P.shows port.old) (P.shows port.new)) }
+    ensures inside { OnOk result (phase (P.shows port.new).own.steps ≡ inside) }
+    ensures refused { IfErr result (λ seen. (name_of seen.word ≡ Pend) × (phase (P.shows port.new).own.steps ≡ outside)) }
+    ensures given_up { IfErr result (λ seen. HasGivenUp (P.shows port.old) seen.value (P.shows port.new)) }
     ensures acting { IsActing (P.shows port.new) }
     ensures goes { GoesBy 3 (P.shows port.old) (P.shows port.new) }
 {
@@ -35,6 +38,7 @@ pub fn enter<P: Port>(port: &mut P) -> Result<(), Seen>
 #[tactic(auto, using(guest_ram::proofs::MaySteps::kinds, guest_ram::proofs::Moves::actor_few))]
 pub fn leave<P: Port>(port: &mut P)
     requires acting { IsActing (P.shows port.old) }
+    ensures step { HasLeft (P.shows port.old) (P.shows port.new) }
     ensures left { phase (P.shows port.new).own.steps ≡ outside }
     ensures acting { IsActing (P.shows port.new) }
     ensures goes { GoesBy 1 (P.shows port.old) (P.shows port.new) }

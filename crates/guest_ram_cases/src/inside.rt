@@ -2,7 +2,7 @@
 ghost use Rattle.std.specs.Prelude.{◌≡◌, ◌≤◌, ◌<◌, ◌+◌, ◌*◌, ℕ, OnOk, IfErr};
 ghost use Rattle.step_laws.specs.Record.{phase, inside};
 ghost use Rattle.guest_ram.specs.Ports.{IsActing, GoesBy};
-ghost use Rattle.guest_ram_cases.specs.Made.{HasAdded, HasPut};
+ghost use Rattle.guest_ram_cases.specs.Made.{HasAdded, HasFound, HasPut};
 
 use guest_ram::Port;
 use step_laws::{CONSOLE_PLACES, cons_word, console_word, ram_word_at};
@@ -13,7 +13,7 @@ pub fn put_byte<P: Port>(port: &mut P, byte: u8) -> Result<(), u64>
     requires acting { IsActing (P.shows port.old) }
     requires inside { phase (P.shows port.old).own.steps ≡ inside }
     ensures put { OnOk result (HasPut (P.shows port.old) (P.shows port.new) byte) }
-    ensures full { IfErr result (λ place. 1048576 ≤ place) }
+    ensures full { IfErr result (λ place. HasFound (P.shows port.old) (P.shows port.new) place) }
     ensures inside { phase (P.shows port.new).own.steps ≡ inside }
     ensures acting { IsActing (P.shows port.new) }
     ensures goes { GoesBy 2 (P.shows port.old) (P.shows port.new) }

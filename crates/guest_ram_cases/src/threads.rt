@@ -1,5 +1,5 @@
 // A machine with two harts, each on a thread.
-ghost use Rattle.std.specs.Prelude.{◌≡◌, ◌≤◌, ◌<◌, ◌∷◌, [], List, IfOk, length, map};
+ghost use Rattle.std.specs.Prelude.{◌≡◌, ◌≤◌, ◌<◌, ◌⊎◌, ◌∷◌, [], List, IfOk, IsTrue, false, length, map};
 ghost use Rattle.step_laws.specs.Joined.{IsJoined};
 ghost use Rattle.step_laws.specs.Layout.{IsInLimits};
 ghost use Rattle.step_laws.specs.Map.{loader};
@@ -8,6 +8,7 @@ ghost use Rattle.step_laws.specs.Steps.{words_of};
 ghost use Rattle.step_laws.specs.declared.steps.Record.{Record};
 ghost use Rattle.guest_ram.specs.Ports.{IsActing, GoesBy};
 ghost use Rattle.guest_ram.specs.Shown.{all_words, machine_of, seat_seen};
+ghost use Rattle.guest_ram_cases.specs.Made.{HasVisited, IsSentAway};
 
 use crate::booting::boot_words;
 use crate::entering::{enter, leave};
@@ -21,6 +22,8 @@ use step_laws::{Layout, NoMemory};
 pub fn visit<P: Port>(port: &mut P, byte: u8) -> bool
     requires acting { IsActing (P.shows port.old) }
     requires outside { phase (P.shows port.old).own.steps ≡ outside }
+    ensures visited { IsTrue result → HasVisited (P.shows port.old) (P.shows port.new) byte }
+    ensures sent_away { result ≡ false → IsSentAway (P.shows port.old) (P.shows port.new) }
     ensures outside { phase (P.shows port.new).own.steps ≡ outside }
     ensures acting { IsActing (P.shows port.new) }
     ensures goes { GoesBy 14 (P.shows port.old) (P.shows port.new) }
@@ -39,7 +42,8 @@ pub fn work(table: &Table, seat: Seat, byte: u8) -> Seat
     requires machine { (seat_seen seat).machine ≡ machine_of table.now }
     requires acting { IsActing (seat_seen seat) }
     requires outside { phase (seat_seen seat).own.steps ≡ outside }
-    ensures { GoesBy 14 (seat_seen seat) (seat_seen result) }
+    ensures came { HasVisited (seat_seen seat) (seat_seen result) byte ⊎ IsSentAway (seat_seen seat) (seat_seen result) }
+    ensures goes { GoesBy 14 (seat_seen seat) (seat_seen result) }
 {
     let mut pass = seat.pass(table);
     visit(&mut pass, byte);
