@@ -7,7 +7,7 @@ use Rattle.elf_load.specs.declared.image.BadImage.TheVariants.{EntryOutside, Ove
 use Rattle.elf_load.specs.Loaded.{Loaded}
 use Rattle.elf_load.specs.Header.{Header, e_entry}
 use Rattle.elf_load.specs.ImageOf.{Check, check, first_failed, head_checks, all_place_checks, placed, overlaps}
-use Rattle.elf_load.specs.ImageOf.{start_among, is_bad_start, start_or_zero, part_of, loaded, answer_to, image_of}
+use Rattle.elf_load.specs.ImageOf.{start_among, is_bad_start, start_or_zero, part_of, read_image, answer_to, image_of}
 
 abbrev pub first_or : Option BadImage → Option BadImage → Option BadImage
 first_or None p = p
@@ -49,7 +49,7 @@ image_by file pages hs same =
     = failed_append (head_checks file ++ all_place_checks (length file) pages (placed file)) (last (placed file))
     ∙ ap (λ o. first_or o (last_fault (e_entry file) (placed file))) (failed_append (head_checks file) (all_place_checks (length file) pages (placed file)))
     ∙ first_or_assoc (first_failed (head_checks file)) (first_failed (all_place_checks (length file) pages (placed file))) (last_fault (e_entry file) (placed file)) in
-    ap (λ o. answer_to o (loaded file)) split
+    ap (λ o. answer_to o (read_image file)) split
     ∙ ap (λ hs. answer_to (first_or (first_failed (head_checks file)) (first_or (first_failed (all_place_checks (length file) pages hs)) (last_fault (e_entry file) hs))) (loaded_by_headers file hs)) (sym same)
 
 -- the answers, one by one

@@ -6,7 +6,7 @@ use Rattle.elf_load.specs.declared.image.BadImage.{BadImage}
 use Rattle.elf_load.specs.declared.image.BadImage.TheVariants.{EntryOutside, Overlap}
 use Rattle.elf_load.specs.Loaded.{Loaded}
 use Rattle.elf_load.specs.ImageOf.{Check, check, first_failed, head_checks, all_place_checks, checks, placed, overlaps, start_of, is_bad_start}
-use Rattle.elf_load.specs.ImageOf.{start_or_zero, loaded, answer_to, image_of, IsImageOf}
+use Rattle.elf_load.specs.ImageOf.{start_or_zero, read_image, answer_to, image_of, IsImageOf}
 use Rattle.elf_load.proofs.Checks.{failed_append, both_pass}
 
 answered : (o : Option BadImage) (l image : Loaded) → answer_to o l ≡ Ok image → (o ≡ None) × (l ≡ image)
@@ -29,7 +29,7 @@ good_start (Some s) e = eqb-true (s % 4) 0 (flip (s % 4 == 0) e)
 pub start_aligned : (file : List ℕ) (pages : ℕ) (image : Loaded) → IsImageOf file pages image → image.start % 4 ≡ 0
 unfolding image_of
 start_aligned file pages image of =
-    let both = answered (first_failed (checks file of.read_for)) (loaded file) image of.is_image in
+    let both = answered (first_failed (checks file of.read_for)) (read_image file) image of.is_image in
     let tail : List Check = check (overlaps (placed file)) Overlap ∷ check (is_bad_start (start_of file)) EntryOutside ∷ [] in
     let rest : first_failed tail ≡ None
     = (both_pass (first_failed (head_checks file ++ all_place_checks (length file) of.read_for (placed file))) (first_failed tail)

@@ -1,4 +1,5 @@
--- A program header as the code keeps it (ELF-64 Object File Format, "Program header table").
+-- A program header as the code keeps it, private to proofs: no public contract cites it (ELF-64 Object File Format, "Program header
+-- table").
 use Rattle.elf_load.specs.declared.header.ProgramHeader.{ProgramHeader}
 use Rattle.elf_load.specs.Header.{Header}
 

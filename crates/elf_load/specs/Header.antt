@@ -1,10 +1,10 @@
 -- The fields of an ELF-64 file (ELF-64 Object File Format, "ELF header" and "Program header table").
 use Rattle.std.specs.Prelude.{ℕ, zero, suc, ◌+◌, ◌*◌, List, [], ◌∷◌, slice_index}
 
--- the little-endian number of so many bytes from a place on
-abbrev pub number_at : List ℕ → (place count : ℕ) → ℕ
-number_at file place zero = 0
-number_at file place (suc count) = slice_index file place + 256 * number_at file (place + 1) count
+-- the little-endian number of so many bytes from an offset in the file on
+abbrev pub number_at : List ℕ → (offset count : ℕ) → ℕ
+number_at file offset zero = 0
+number_at file offset (suc count) = slice_index file offset + 256 * number_at file (offset + 1) count
 
 abbrev pub e_type : List ℕ → ℕ
 e_type file = number_at file 16 2
@@ -36,20 +36,20 @@ pub record Header : Type 0 where
   pub p_filesz : ℕ
   pub p_memsz : ℕ
 
-abbrev pub header_at : List ℕ → (place : ℕ) → Header
-header_at file place = record {
-  p_type = number_at file place 4;
-  p_offset = number_at file (place + 8) 8;
-  p_vaddr = number_at file (place + 16) 8;
-  p_paddr = number_at file (place + 24) 8;
-  p_filesz = number_at file (place + 32) 8;
-  p_memsz = number_at file (place + 40) 8;
+abbrev pub header_at : List ℕ → (offset : ℕ) → Header
+header_at file offset = record {
+  p_type = number_at file offset 4;
+  p_offset = number_at file (offset + 8) 8;
+  p_vaddr = number_at file (offset + 16) 8;
+  p_paddr = number_at file (offset + 24) 8;
+  p_filesz = number_at file (offset + 32) 8;
+  p_memsz = number_at file (offset + 40) 8;
 }
 
--- so many headers of 56 bytes from a place on
-unfoldable pub headers_from : List ℕ → (place count : ℕ) → List Header
-headers_from file place zero = []
-headers_from file place (suc count) = header_at file place ∷ headers_from file (place + 56) count
+-- so many headers of 56 bytes from an offset in the file on
+unfoldable pub headers_from : List ℕ → (offset count : ℕ) → List Header
+headers_from file offset zero = []
+headers_from file offset (suc count) = header_at file offset ∷ headers_from file (offset + 56) count
 
 -- the table, in order
 abbrev pub headers : List ℕ → List Header

@@ -101,8 +101,8 @@ checks file pages =
 abbrev pub part_of : Header → Part
 part_of h = record { place = h.p_paddr; at = h.p_offset; len = h.p_filesz; zeros = h.p_memsz - h.p_filesz }
 
-abbrev pub loaded : List ℕ → Loaded
-loaded file = record { start = start_or_zero (start_of file); parts = map part_of (placed file) }
+abbrev pub read_image : List ℕ → Loaded
+read_image file = record { start = start_or_zero (start_of file); parts = map part_of (placed file) }
 
 abbrev pub answer_to : Option BadImage → Loaded → Result Loaded BadImage
 answer_to None image = Ok image
@@ -110,7 +110,7 @@ answer_to (Some kind) image = Err kind
 
 -- the image of a file for a machine of so many pages, or the first kind of fault that refuses it
 unfoldable pub image_of : List ℕ → (pages : ℕ) → Result Loaded BadImage
-image_of file pages = answer_to (first_failed (checks file pages)) (loaded file)
+image_of file pages = answer_to (first_failed (checks file pages)) (read_image file)
 
 -- the image was read from this file, for a machine of no more pages than these
 pub record IsImageOf (file : List ℕ) (pages : ℕ) (image : Loaded) : Type 0 where

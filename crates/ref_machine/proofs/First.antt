@@ -8,13 +8,14 @@ use Rattle.elf_load.specs.declared.image.Part.{Part}
 use Rattle.elf_load.specs.Contents.{contents_word}
 use Rattle.step_laws.specs.declared.words.Layout.{Layout}
 use Rattle.step_laws.specs.Words.{first_ram_word}
-use Rattle.ref_machine.specs.declared.hart.Mode.TheVariants.{Started, Halted}
-use Rattle.ref_machine.specs.Image.{image_memory}
-use Rattle.ref_machine.specs.State.{Hart, initial, new_hart}
+use Rattle.machine_model.specs.declared.mode.Mode.TheVariants.{Started, Halted}
+use Rattle.machine_model.specs.Image.{image_memory}
+use Rattle.machine_model.specs.State.{Hart, initial, new_hart}
 use Rattle.ref_machine.specs.Slots.{new_slot}
 use Rattle.ref_machine.specs.SharedState.{Shared, IsFirst}
 use Rattle.ref_machine.specs.PlainState.{first_slots}
-use Rattle.ref_machine.specs.Shows.{Shows, setup_of, resting, shown}
+use Rattle.ref_machine.specs.Shows.{Shows, resting, shown}
+use Rattle.machine_model.specs.Image.{setup_of}
 
 -- one more hart
 pub slots_more : (n start : ℕ) → 1 ≤ n → first_slots n start ++ new_slot Halted 0 ∷ [] ≡ first_slots (n + 1) start

@@ -1,11 +1,4 @@
-pub mod Harts
 pub mod Loading
-pub mod Plainly
-pub mod Grows
-pub mod Rows
-pub mod Computed
-pub mod Uniform
-pub mod Reading
 pub mod Reaches
 pub mod Fresh
 pub mod Quick
@@ -23,4 +16,3 @@ pub mod Turned
 pub mod Runs
 pub mod Lists
 pub mod Decoding
-pub mod Fits

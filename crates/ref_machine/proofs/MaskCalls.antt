@@ -5,9 +5,9 @@ use Rattle.std.specs.Option.{is_some, is_none}
 use Rattle.std.proofs.lemmas.Bool.{cases_eq, le-leb, eq-eqb, ne_eqb}
 use Rattle.rv64_priv.specs.State.{Arch}
 use Rattle.rv64_priv.specs.Flush.{Flush}
-use Rattle.ref_machine.specs.Memory.{Memory}
-use Rattle.ref_machine.specs.Perform.{called}
-use Rattle.ref_machine.specs.Sbi.{Call, Sends, arg, named, are_there, bits_of, with_named, fails, succeeds, not_supported, invalid_parameter, invalid_address, fence_over, fence_range, ipi_call, rfence_call}
+use Rattle.machine_model.specs.Memory.{Memory}
+use Rattle.machine_model.specs.Perform.{call_outcome}
+use Rattle.machine_model.specs.Sbi.{Call, Sends, arg, named, are_there, bits_of, with_named, fails, succeeds, not_supported, invalid_parameter, invalid_address, fence_over, fence_range, ipi_call, rfence_call}
 use Rattle.ref_machine.specs.Calls.{bits_if_there}
 
 abbrev pub harts_of : ℕ → Arch → List ℕ
@@ -86,12 +86,12 @@ unfolding over_range
 fence_past_end harts a fid e few t past =
     sym (page_fence harts a fid e few ∙ with_there harts a (over_range a) true t ∙ past_end (harts_of harts a) (fence_range (arg a 2) (arg a 3)) past)
 
-done : (m : Memory) (room : ℕ) (hs : List ℕ) (range : Option Flush) → is_none range ≡ false → called m room (succeeds 0) ≡ called m room (fence_over hs range)
+done : (m : Memory) (room : ℕ) (hs : List ℕ) (range : Option Flush) → is_none range ≡ false → call_outcome m room (succeeds 0) ≡ call_outcome m room (fence_over hs range)
 done m room hs None e = absurd (cc)
 done m room hs (Some what) e = refl
 
 pub page_fence_done : (harts : ℕ) (a : Arch) (fid : ℕ) → fid ≢ 0 → fid ≤ 2 → are_there harts (harts_of harts a) ≡ true → is_none (fence_range (arg a 2) (arg a 3)) ≡ false
-    → (m : Memory) (room : ℕ) → called m room (succeeds 0) ≡ called m room (rfence_call harts a fid)
+    → (m : Memory) (room : ℕ) → call_outcome m room (succeeds 0) ≡ call_outcome m room (rfence_call harts a fid)
 unfolding over_range
 page_fence_done harts a fid e few t inside m room =
-    done m room (harts_of harts a) (fence_range (arg a 2) (arg a 3)) inside ∙ ap (called m room) (sym (page_fence harts a fid e few ∙ with_there harts a (over_range a) true t))
+    done m room (harts_of harts a) (fence_range (arg a 2) (arg a 3)) inside ∙ ap (call_outcome m room) (sym (page_fence harts a fid e few ∙ with_there harts a (over_range a) true t))

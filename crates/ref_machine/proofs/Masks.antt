@@ -10,7 +10,7 @@ use Rattle.std.proofs.lemmas.Nat.Bits.{bit_at_or, same_from_bits}
 use Rattle.std.proofs.Math.Nat.{pow-suc}
 use Rattle.std.specs.Int.Bits.{or_zero_l, or_zero_r}
 use Rattle.rv64_priv.specs.Bits.{is_set}
-use Rattle.ref_machine.specs.Sbi.{below, named, are_there, bits_of}
+use Rattle.machine_model.specs.Sbi.{below, named, are_there, bits_of}
 use Rattle.ref_machine.specs.Calls.{bits_if_there}
 
 or_assoc : (a b c : ℕ) → bit_or (bit_or a b) c ≡ bit_or a (bit_or b c)

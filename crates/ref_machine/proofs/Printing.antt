@@ -1,14 +1,14 @@
--- What prints bytes of RAM.
+-- What print_outcome bytes of RAM.
 use Rattle.std.proofs.Common.{◌≡◌, refl, ℕ, zero, suc, ◌<◌, ◌≤◌, ◌+◌, ◌++◌, List, [], ◌∷◌, length, take, Some, None, Bool, arith, ap, sym, ◌∙◌, append-nil, append_assoc}
 use Rattle.std.specs.Prelude.{nat_le, if◌then◌else◌}
 use Rattle.std.proofs.lemmas.Bool.{le-leb, lt-leb}
 use Rattle.rv64_exec.specs.declared.needs.Answer.{Answer}
-use Rattle.ref_machine.specs.declared.reason.Reason.{Reason}
-use Rattle.ref_machine.specs.Memory.{Memory}
-use Rattle.ref_machine.specs.Event.{Outcome, only}
-use Rattle.ref_machine.specs.Sbi.{byte_at, bytes_from}
-use Rattle.ref_machine.specs.Perform.{prints}
-use Rattle.ref_machine.specs.Change.{printed}
+use Rattle.machine_model.specs.declared.reason.Reason.{Reason}
+use Rattle.machine_model.specs.Memory.{Memory}
+use Rattle.machine_model.specs.Event.{Outcome, only}
+use Rattle.machine_model.specs.Sbi.{byte_at, bytes_from}
+use Rattle.machine_model.specs.Perform.{print_outcome}
+use Rattle.machine_model.specs.Change.{printed}
 use Rattle.ref_machine.specs.SharedState.{Shared, ram_memory}
 use Rattle.ref_machine.specs.OneTurn.{effect_called, done_with, room}
 
@@ -42,14 +42,14 @@ abbrev prints_by : (b : Shared) (bytes : List ℕ) (answer : Answer) (c : Bool) 
 prints_by b bytes answer c = if c then record (only answer) { bytes = bytes } else record (only Answer.Nothing) { bytes = take (room b) bytes; reason = Some Reason.OutFull }
 
 pub prints_all : (b : Shared) (from count : ℕ) (answer : Answer) → count ≤ room b
-    → effect_called b (prints (room b) (bytes_from (ram_memory b.ram) from count) answer) ≡ done_with (record b { console = b.console ++ bytes_from (ram_memory b.ram) from count }) answer None
+    → effect_called b (print_outcome (room b) (bytes_from (ram_memory b.ram) from count) answer) ≡ done_with (record b { console = b.console ++ bytes_from (ram_memory b.ram) from count }) answer None
 prints_all b from count answer le =
     let bytes = bytes_from (ram_memory b.ram) from count in
     ap (λ c. effect_called b (prints_by b bytes answer c)) (ap (λ n. nat_le n (room b)) (bytes_length (ram_memory b.ram) from count) ∙ le-leb count (room b) le)
     ∙ ap (λ bs. done_with (record b { console = bs }) answer None) (printed_all b.console bytes)
 
 pub prints_some : (b : Shared) (from count : ℕ) (answer : Answer) → room b < count
-    → effect_called b (prints (room b) (bytes_from (ram_memory b.ram) from count) answer) ≡ done_with (record b { console = b.console ++ bytes_from (ram_memory b.ram) from (room b) }) Answer.Nothing (Some Reason.OutFull)
+    → effect_called b (print_outcome (room b) (bytes_from (ram_memory b.ram) from count) answer) ≡ done_with (record b { console = b.console ++ bytes_from (ram_memory b.ram) from (room b) }) Answer.Nothing (Some Reason.OutFull)
 prints_some b from count answer lt =
     let bytes = bytes_from (ram_memory b.ram) from count in
     ap (λ c. effect_called b (prints_by b bytes answer c)) (ap (λ n. nat_le n (room b)) (bytes_length (ram_memory b.ram) from count) ∙ lt-leb count (room b) lt)

@@ -7,19 +7,19 @@ use Rattle.rv64_priv.specs.declared.state.Regime.{Regime}
 use Rattle.rv64_priv.specs.Bits.{aligned}
 use Rattle.rv64_priv.specs.Csr.{regime}
 use Rattle.rv64_priv.specs.Pte.{is_bare}
-use Rattle.rv64_priv.specs.Walk.{Levels, Leaf, PageFault, AccessFault, walk_of, walk_from, reached, is_canonical, is_ram, is_device, is_reachable}
+use Rattle.rv64_priv.specs.Walk.{Levels, Leaf, PageFault, AccessFault, walk_of, walk_from, reachable_leaf, is_canonical, is_ram, is_device, is_reachable}
 use Rattle.step_laws.specs.Words.{first_ram_word, ram_word}
-use Rattle.ref_machine.specs.Memory.{One, Two}
-use Rattle.ref_machine.specs.Access.{AtRam, AtDevice, InRam, spot_of, second_va, one_page, two_pages, reach}
+use Rattle.machine_model.specs.Memory.{One, Two}
+use Rattle.machine_model.specs.Access.{AtRam, AtDevice, InRam, spot_of, second_va, one_page, two_pages, reach}
 use Rattle.rv64_priv.specs.State.{Arch}
 use Rattle.ref_machine.specs.SharedState.{Shared, ram_reads}
 use Rattle.ref_machine.specs.OneTurn.{IsBarePlace, IsBareWord, reach_of, walk_end}
 use Rattle.ref_machine.specs.Translation.{IsWord}
 
-bare_walk : (pages : ℕ) (r : Regime) (kind : Kind) (l : Levels) (va : ℕ) → is_bare r ≡ true → walk_of pages r kind l va ≡ reached pages kind 0xcf (aligned 12 va) 0
+bare_walk : (pages : ℕ) (r : Regime) (kind : Kind) (l : Levels) (va : ℕ) → is_bare r ≡ true → walk_of pages r kind l va ≡ reachable_leaf pages kind 0xcf (aligned 12 va) 0
 unfolding walk_of
 bare_walk pages r kind l va e =
-    ap (λ b. if b then reached pages kind 0xcf (aligned 12 va) 0 else (if is_canonical va then walk_from pages r kind l va 3 (r.satp % 2 ^ 44 * 4096) else PageFault)) e
+    ap (λ b. if b then reachable_leaf pages kind 0xcf (aligned 12 va) 0 else (if is_canonical va then walk_from pages r kind l va 3 (r.satp % 2 ^ 44 * 4096) else PageFault)) e
 
 -- the page of a place in RAM is there
 page_there : (pages va : ℕ) → 2 ^ 31 ≤ va → va < 2 ^ 31 + 4096 * pages → is_ram pages (aligned 12 va) ≡ true

@@ -5,9 +5,9 @@ use Rattle.std.proofs.lemmas.Bool.{leb-true, leb-false, ltb-true, ltb-false, ne_
 use Rattle.rv64_priv.specs.declared.state.Kind.{Kind}
 use Rattle.rv64_priv.specs.Walk.{Walked, Leaf, PageFault, AccessFault, is_ram, is_device, is_reachable}
 use Rattle.step_laws.specs.Words.{first_ram_word, ram_word}
-use Rattle.ref_machine.specs.Memory.{Span, One, Two}
-use Rattle.ref_machine.specs.Access.{Spot, AtRam, AtDevice, Faults, Reach, InRam, spot_of, crosses_page, second_va, one_page, two_pages, reach}
-use Rattle.ref_machine.specs.Translation.{IsInRam, IsSpotIn, IsSound}
+use Rattle.machine_model.specs.Memory.{Span, One, Two}
+use Rattle.machine_model.specs.Access.{Spot, AtRam, AtDevice, Faults, Reach, InRam, spot_of, crosses_page, second_va, one_page, two_pages, reach}
+use Rattle.ref_machine.specs.Translation.{IsInRam, IsSpotIn, IsSoundEnd}
 
 and_left : (p q : Bool) → p && q ≡ true → p ≡ true
 and_left true q h = refl
@@ -37,7 +37,7 @@ place_in pages va page e whole =
     let high = ltb-true page (2 ^ 31 + 4096 * pages) (and_right (nat_le (2 ^ 31) page) (nat_lt page (2 ^ 31 + 4096 * pages)) e) in
     (omega (arith, low), omega (arith, high, whole), omega (arith, whole))
 
-pub spot_in : (pages : ℕ) (kind : Kind) (va : ℕ) (w : Walked) → IsSound pages kind w → IsSpotIn pages va (spot_of kind va w)
+pub spot_in : (pages : ℕ) (kind : Kind) (va : ℕ) (w : Walked) → IsSoundEnd pages kind w → IsSpotIn pages va (spot_of kind va w)
 spot_in pages kind va PageFault k = tt
 spot_in pages kind va AccessFault k = tt
 spot_in pages kind va (Leaf pte page level) k = go (is_device (page + va % 4096)) refl
@@ -47,7 +47,7 @@ spot_in pages kind va (Leaf pte page level) k = go (is_device (page + va % 4096)
     go false e = place_in pages va page (ram_of pages kind page k.0 (sym (page_device page (va % 4096) k.1 (omega arith)) ∙ e)) k.1
 
 -- a fetch leads to no device
-pub fetch_in : (pages va : ℕ) (w : Walked) → IsSound pages Kind.Fetch w → (pa : ℕ) → spot_of Kind.Fetch va w ≡ AtDevice pa → ⊥
+pub fetch_in : (pages va : ℕ) (w : Walked) → IsSoundEnd pages Kind.Fetch w → (pa : ℕ) → spot_of Kind.Fetch va w ≡ AtDevice pa → ⊥
 fetch_in pages va PageFault k pa e = cc
 fetch_in pages va AccessFault k pa e = cc
 fetch_in pages va (Leaf pte page level) k pa e = go (is_device (page + va % 4096)) refl e
@@ -101,7 +101,7 @@ two_in kind pages va vb width (AtRam pa) (AtRam pb) k l = go (nat_le (pa % 8 + w
     go true = word_in pages va pa k
     go false = (word_in pages va pa k, word_in pages vb pb l)
 
-pub reach_in : (kind : Kind) (pages va width : ℕ) (first second : Walked) → IsSound pages kind first → IsSound pages kind second → IsReachIn (512 * pages) (reach kind va width first second)
+pub reach_in : (kind : Kind) (pages va width : ℕ) (first second : Walked) → IsSoundEnd pages kind first → IsSoundEnd pages kind second → IsReachIn (512 * pages) (reach kind va width first second)
 reach_in kind pages va width first second k l = go (crosses_page va width) refl
   where
     go : (b : Bool) → crosses_page va width ≡ b

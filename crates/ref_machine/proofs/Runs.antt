@@ -3,13 +3,13 @@ use Rattle.std.proofs.Common.{inl, inr, ◌≡◌, refl, ℕ, ◌++◌, List, []
 use Rattle.std.specs.Prelude.{◌⊎◌, IsSome}
 use Rattle.std.proofs.lemmas.List.{append_assoc as list_assoc}
 use Rattle.rv64_exec.specs.Code.{Code}
-use Rattle.ref_machine.specs.declared.reason.Reason.{Reason}
-use Rattle.ref_machine.specs.Event.{Event}
-use Rattle.ref_machine.specs.State.{Setup, State}
-use Rattle.ref_machine.specs.Change.{state_after}
-use Rattle.ref_machine.specs.Run.{state_of}
-use Rattle.ref_machine.specs.Now.{IsNext}
-use Rattle.ref_machine.specs.Plain.{IsPlainRun, none, turn, over, plain_turn, states_after}
+use Rattle.machine_model.specs.declared.reason.Reason.{Reason}
+use Rattle.machine_model.specs.Event.{Event}
+use Rattle.machine_model.specs.State.{Setup, State}
+use Rattle.machine_model.specs.Change.{state_after}
+use Rattle.machine_model.specs.Run.{state_of}
+use Rattle.machine_model.specs.Now.{IsNext}
+use Rattle.machine_model.specs.Plain.{IsPlainRun, none, turn, over, plain_turn, states_after}
 use Rattle.ref_machine.specs.PlainState.{PlainState}
 use Rattle.ref_machine.specs.Shows.{Shows, Turned}
 use Rattle.ref_machine.specs.Ran.{IsOnly, Ran}

@@ -5,30 +5,29 @@ use Rattle.rv64_decode.specs.declared.instruction.Instr.{Instr}
 use Rattle.rv64_decode.specs.Encoding.{Decodes}
 use Rattle.rv64_priv.specs.State.{Arch}
 use Rattle.rv64_priv.specs.declared.state.Kind.{Kind}
-use Rattle.rv64_priv.specs.Bits.{is_set}
 use Rattle.rv64_priv.specs.Csr.{regime}
-use Rattle.rv64_priv.specs.Trap.{trapped, takes_interrupts, software_interrupt}
+use Rattle.rv64_priv.specs.Trap.{trapped, software_interrupt}
 use Rattle.rv64_priv.specs.Walk.{Walked, Leaf, PageFault, AccessFault, is_device}
 use Rattle.rv64_exec.specs.Code.{Code, no_code}
 use Rattle.step_laws.specs.Words.{ram_word, ipi_word}
-use Rattle.ref_machine.specs.declared.reason.Reason.{Reason}
-use Rattle.ref_machine.specs.declared.hart.Mode.{Mode}
-use Rattle.ref_machine.specs.declared.hart.Mode.TheVariants.{Started, Halted, Pending}
+use Rattle.machine_model.specs.declared.reason.Reason.{Reason}
+use Rattle.machine_model.specs.declared.mode.Mode.{Mode}
+use Rattle.machine_model.specs.declared.mode.Mode.TheVariants.{Started, Halted, Pending}
 use Rattle.ref_machine.specs.declared.hart.HartSlot.{HartSlot}
-use Rattle.ref_machine.specs.Memory.{Memory, Entry, written}
-use Rattle.ref_machine.specs.State.{Setup, State, Hart, hart, memory, is_started}
-use Rattle.ref_machine.specs.Access.{Spot, AtRam, AtDevice, Faults, spot_at, spot_of, code_word}
+use Rattle.machine_model.specs.Memory.{Memory, StoreEntry, written}
+use Rattle.machine_model.specs.State.{Setup, State, Hart, hart, is_started}
+use Rattle.machine_model.specs.Access.{Spot, AtRam, AtDevice, Faults, spot_at, spot_of, code_word}
 use Rattle.step_laws.specs.declared.words.Layout.{Layout}
-use Rattle.ref_machine.specs.Walks.{walked_now}
-use Rattle.ref_machine.specs.Change.{first_reason}
-use Rattle.ref_machine.specs.Run.{is_leaf_end}
-use Rattle.ref_machine.specs.Now.{IsCode, IsNext, is_pending, fetch_end, fetches_now}
-use Rattle.ref_machine.specs.Plain.{plain_turn, turn_in, states_after, after_turn}
-use Rattle.ref_machine.specs.Slots.{begun}
+use Rattle.machine_model.specs.Change.{first_reason}
+use Rattle.machine_model.specs.Run.{is_leaf_end}
+use Rattle.machine_model.specs.Lawful.{IsCode, is_pending}
+use Rattle.machine_model.specs.Now.{walked_now, IsNext, is_pending_now, fetch_end, fetches_now}
+use Rattle.machine_model.specs.Plain.{plain_turn, turn_in, states_after, after_turn}
+use Rattle.ref_machine.specs.Slots.{slot_begun}
 use Rattle.ref_machine.specs.SharedState.{ram_memory, ram_reads}
 use Rattle.ref_machine.specs.PlainState.{PlainState, slot, with_slot}
 use Rattle.ref_machine.specs.OneTurn as one
-use Rattle.ref_machine.specs.OneTurn.{Done, Alone, Calls, interrupted, faulted, slot_trapped, shared_after, after_word, after_done, IsDone, IsFetched, IsStep, IsStepped, IsTurn, walk_end}
+use Rattle.ref_machine.specs.OneTurn.{Done, Alone, Calls, interrupted, faulted, slot_trapped, shared_after, after_word, after_done, IsWordDone, IsFetched, IsStep, IsStepped, IsTurn, walk_end}
 use Rattle.ref_machine.specs.Shows.{Shows, Turned, resting, shown}
 use Rattle.ref_machine.specs.Translation.{IsSpotIn}
 use Rattle.ref_machine.proofs.Fresh.{walk_sound}
@@ -44,12 +43,12 @@ shows_hart : (u : Setup) (p : PlainState) (s : State) (k : Shows u p s) (h : ℕ
 shows_hart u p s k h = record { arch = ap (λ (t : Hart). t.arch) (slot_shown p.slots h); layout = k.layout; size = k.size; memory = k.memory }
 
 abbrev pends : PlainState → ℕ → Bool
-pends p h = one.is_pending h (slot p h).arch p.shared
+pends p h = is_pending (slot p h).arch h p.shared.ipi
 
-pending_same : (u : Setup) (p : PlainState) (s : State) (k : Shows u p s) (h : ℕ) → is_pending u (shown p k.entries k.script) h (memory u (shown p k.entries k.script)) ≡ pends p h
+pending_same : (u : Setup) (p : PlainState) (s : State) (k : Shows u p s) (h : ℕ) → is_pending_now u (shown p k.entries k.script) h ≡ pends p h
 pending_same u p s k h =
-    ap (λ a. takes_interrupts a && is_set (written u.image k.entries ipi_word) h) (shows_hart u p s k h).arch
-    ∙ ap (λ n. takes_interrupts (slot p h).arch && is_set n h) k.memory.ipi
+    ap (λ a. is_pending a h (written u.image k.entries ipi_word)) (shows_hart u p s k h).arch
+    ∙ ap (λ n. is_pending (slot p h).arch h n) k.memory.ipi
 
 abbrev pc_of : PlainState → ℕ → ℕ
 pc_of p h = (slot p h).arch.pc
@@ -69,15 +68,15 @@ end_same u p s k h =
 abbrev fetches : PlainState → ℕ → Bool
 fetches p h = is_started (slot p h).mode && not (pends p h)
 
-abbrev Found : Setup → PlainState → ℕ → List Entry → Code → Type 0
+abbrev Found : Setup → PlainState → ℕ → List StoreEntry → Code → Type 0
 Found u p h es code = IsCode (written u.image es) (pc_of p h) (end_of p h) code
 
-abbrev Next : Setup → PlainState → ℕ → List Entry → Code → Type 0
+abbrev Next : Setup → PlainState → ℕ → List StoreEntry → Code → Type 0
 Next u p h es code = MatchBool (fetches p h) (Found u p h es code) (code ≡ no_code)
 
 fetches_same : (u : Setup) (p : PlainState) (s : State) (k : Shows u p s) (h : ℕ) → fetches_now u (shown p k.entries k.script) h ≡ fetches p h
 fetches_same u p s k h =
-    ap (λ (t : Hart). is_started t.mode && not (is_pending u (shown p k.entries k.script) h (memory u (shown p k.entries k.script)))) (slot_shown p.slots h)
+    ap (λ (t : Hart). is_started t.mode && not (is_pending_now u (shown p k.entries k.script) h)) (slot_shown p.slots h)
     ∙ ap (λ b. is_started (slot p h).mode && not b) (pending_same u p s k h)
 
 next_is : (u : Setup) (p : PlainState) (s : State) (k : Shows u p s) (h : ℕ) (code : Code) → IsNext u s h code → Next u p h k.entries code
@@ -126,9 +125,9 @@ shows_slot u p s k h code t is = record {
   limit = k.limit;
 }
 
-turned_start : (h : ℕ) (p : PlainState) → p.shared.reason ≡ None → (slot p h).mode ≡ Pending → Turned h p (with_slot p h (begun h (slot p h)))
-turned_start h p going mode = turned_none h p (with_slot p h (begun h (slot p h))) (ap (λ m. is_started m && not (pends p h)) mode) (λ u s k code.
-    shows_slot u p s k h code (begun h (slot p h)) (taken u p k.entries k.script h code Pending going mode ∙ begun_state u p k.entries k.script h code))
+turned_start : (h : ℕ) (p : PlainState) → p.shared.reason ≡ None → (slot p h).mode ≡ Pending → Turned h p (with_slot p h (slot_begun h (slot p h)))
+turned_start h p going mode = turned_none h p (with_slot p h (slot_begun h (slot p h))) (ap (λ m. is_started m && not (pends p h)) mode) (λ u s k code.
+    shows_slot u p s k h code (slot_begun h (slot p h)) (taken u p k.entries k.script h code Pending going mode ∙ begun_state u p k.entries k.script h code))
 
 turned_interrupt : (h : ℕ) (p : PlainState) → p.shared.reason ≡ None → (slot p h).mode ≡ Started → pends p h ≡ true → Turned h p (after_done p h (interrupted (slot p h) p.shared))
 turned_interrupt h p going mode pending =
@@ -138,10 +137,10 @@ turned_interrupt h p going mode pending =
 
 -- TURNS THAT FETCH
 
-found_next : (u : Setup) (p : PlainState) (h : ℕ) (es : List Entry) (code : Code) → fetches p h ≡ true → Next u p h es code → Found u p h es code
+found_next : (u : Setup) (p : PlainState) (h : ℕ) (es : List StoreEntry) (code : Code) → fetches p h ≡ true → Next u p h es code → Found u p h es code
 found_next u p h es code some next = subst (λ b. MatchBool b (Found u p h es code) (code ≡ no_code)) some next
 
-next_found : (u : Setup) (p : PlainState) (h : ℕ) (es : List Entry) (code : Code) → fetches p h ≡ true → Found u p h es code → Next u p h es code
+next_found : (u : Setup) (p : PlainState) (h : ℕ) (es : List StoreEntry) (code : Code) → fetches p h ≡ true → Found u p h es code → Next u p h es code
 next_found u p h es code some found = subst (λ b. MatchBool b (Found u p h es code) (code ≡ no_code)) (sym some) found
 
 -- a fetch that faults finds no code
@@ -244,7 +243,7 @@ memory_at u p s k h pa at =
     sym (word_same p.shared.ram (written u.image k.entries) (ram_word pa) k.memory.ram (subst (λ n. IsWord n (ram_word pa)) (sym size) (word_in pages (pc_of p h) pa inside)))
 
 turned_word : (h : ℕ) (p : PlainState) (pa : ℕ) (d : Done) → h < length p.slots → p.shared.reason ≡ None → (slot p h).mode ≡ Started → pends p h ≡ false → spot p h ≡ AtRam pa
-    → IsDone h (slot p h) p.shared (word_at p pa) d → Turned h p (after_done p h d)
+    → IsWordDone h (slot p h) p.shared (word_at p pa) d → Turned h p (after_done p h d)
 turned_word h p pa d lt going mode quiet at t =
     let word = word_at p pa in
     let some : fetches p h ≡ true = ap (λ m. is_started m && not (pends p h)) mode ∙ ap not quiet in

@@ -10,29 +10,30 @@ use Rattle.rv64_priv.specs.Walk.{Walked, Leaf, PageFault, AccessFault, is_device
 use Rattle.rv64_exec.specs.Code.{Code}
 use Rattle.rv64_exec.specs.declared.needs.Answer.{Answer}
 use Rattle.rv64_exec.specs.Finish as finish
-use Rattle.ref_machine.specs.declared.reason.Reason.{Reason}
-use Rattle.ref_machine.specs.declared.hart.Mode.{Mode}
-use Rattle.ref_machine.specs.declared.hart.Mode.TheVariants.{Halted, Pending}
+use Rattle.machine_model.specs.declared.reason.Reason.{Reason}
+use Rattle.machine_model.specs.declared.mode.Mode.{Mode}
+use Rattle.machine_model.specs.declared.mode.Mode.TheVariants.{Halted, Pending}
 use Rattle.ref_machine.specs.declared.hart.HartSlot.{HartSlot}
-use Rattle.ref_machine.specs.Memory.{Entry}
-use Rattle.ref_machine.specs.Event.{Event, Outcome, Starting, Exec, Flushes, Stop}
-use Rattle.ref_machine.specs.State.{Setup, State, Hart, Command, hart, nth, new_hart, memory, all_halted, is_halted}
-use Rattle.ref_machine.specs.Access.{AtRam, AtDevice, Faults, spot_of}
-use Rattle.ref_machine.specs.Walks.{need, access_of, first_now, second_now}
-use Rattle.ref_machine.specs.Change as change
-use Rattle.ref_machine.specs.Change.{state_after, executed, first_reason, counted}
-use Rattle.ref_machine.specs.Run.{is_leaf_end}
-use Rattle.ref_machine.specs.Now.{is_pending, fetch_end, fetch_now, exec_now, outcome_now}
-use Rattle.ref_machine.specs.Lawful.{Flushing, flushing}
-use Rattle.ref_machine.specs.Plain.{plain_turn, turn_in, running_turn, instruction, executing, with_stops, stops_behind, flush_events, states_after, after_turn}
+use Rattle.machine_model.specs.Memory.{StoreEntry}
+use Rattle.machine_model.specs.Event.{Event, Outcome, Starting, Exec, Flushes, Stop}
+use Rattle.machine_model.specs.State.{Setup, State, Hart, Command, hart, nth, new_hart, all_halted, is_halted}
+use Rattle.machine_model.specs.Access.{AtRam, AtDevice, Faults, spot_of}
+use Rattle.machine_model.specs.Walks.{need, access_of}
+use Rattle.machine_model.specs.Perform.{surroundings}
+use Rattle.machine_model.specs.Change as change
+use Rattle.machine_model.specs.Change.{state_after, executed, first_reason, counted}
+use Rattle.machine_model.specs.Run.{is_leaf_end}
+use Rattle.machine_model.specs.Now.{first_now, second_now, is_pending_now, fetch_end, fetch_now, exec_now}
+use Rattle.machine_model.specs.Lawful.{Flushing, flushing}
+use Rattle.machine_model.specs.Plain.{plain_turn, turn_in, running_turn, instruction, executing, with_stops, stops_behind, flush_events, states_after, after_turn}
 use Rattle.ref_machine.specs.Slots as slots
-use Rattle.ref_machine.specs.Slots.{new_slot, slot_at, begun}
+use Rattle.ref_machine.specs.Slots.{new_slot, slot_at, slot_begun}
 use Rattle.ref_machine.specs.SharedState.{Shared}
 use Rattle.ref_machine.specs.PlainState.{PlainState, slot}
 use Rattle.ref_machine.specs.Shows.{holding, resting, shown}
-use Rattle.ref_machine.proofs.Harts.{start_keeps}
-use Rattle.ref_machine.proofs.Plainly.{fetched_leaf}
-use Rattle.ref_machine.proofs.Served.{outcome, state_with}
+use Rattle.machine_model.proofs.Harts.{start_keeps}
+use Rattle.machine_model.proofs.Plainly.{fetched_leaf}
+use Rattle.ref_machine.proofs.Served.{outcome, performed, state_with}
 
 -- HARTS AS SHOWN
 
@@ -46,17 +47,17 @@ set_shown ts h w t e =
     ∙ ap (slice_set (map resting ts) h) e
     ∙ sym (map-set resting ts h t)
 
-start_shown : (ts : List HartSlot) (o : Option Starting) → change.with_start (map resting ts) o ≡ map resting (slots.with_start ts o)
+start_shown : (ts : List HartSlot) (o : Option Starting) → change.with_start (map resting ts) o ≡ map resting (slots.slots_with_start ts o)
 start_shown ts None = refl
-start_shown ts (Some g) = set_shown ts g.target (change.awaited g) (slots.awaited g (slot_at ts g.target)) refl
+start_shown ts (Some g) = set_shown ts g.target (change.awaited g) (slots.slot_awaited g (slot_at ts g.target)) refl
 
-halted_shown : (ts : List HartSlot) (es : List Entry) (sc : List Command) (output : List ℕ) (r : Option Reason)
-    → all_halted (record { entries = es; harts = map resting ts; output = output; reason = r; script = sc }) ≡ slots.all_halted ts
+halted_shown : (ts : List HartSlot) (es : List StoreEntry) (sc : List Command) (output : List ℕ) (r : Option Reason)
+    → all_halted (record { entries = es; harts = map resting ts; output = output; reason = r; script = sc }) ≡ slots.slots_all_halted ts
 halted_shown ts es sc output r = list_all-map (λ (t : Hart). is_halted t.mode) resting ts
 
 -- A TURN'S BEGIN
 
-pub taken : (u : Setup) (p : PlainState) (es : List Entry) (sc : List Command) (h : ℕ) (code : Code) (m : Mode) → p.shared.reason ≡ None → (slot p h).mode ≡ m
+pub taken : (u : Setup) (p : PlainState) (es : List StoreEntry) (sc : List Command) (h : ℕ) (code : Code) (m : Mode) → p.shared.reason ≡ None → (slot p h).mode ≡ m
     → after_turn u h code (shown p es sc) ≡ states_after (turn_in u (shown p es sc) h code m) (shown p es sc)
 unfolding plain_turn
 taken u p es sc h code m none e =
@@ -65,13 +66,16 @@ taken u p es sc h code m none e =
     ∙ ap (λ x. states_after (turn_in u s h code x) s) (ap (λ (t : Hart). t.mode) (slot_shown p.slots h) ∙ e)
 
 -- of a start
-pub begun_state : (u : Setup) (p : PlainState) (es : List Entry) (sc : List Command) (h : ℕ) (code : Code)
-    → states_after (turn_in u (shown p es sc) h code Pending) (shown p es sc) ≡ shown (record p { slots = slice_set p.slots h (begun h (slot p h)) }) es sc
+pub begun_state : (u : Setup) (p : PlainState) (es : List StoreEntry) (sc : List Command) (h : ℕ) (code : Code)
+    → states_after (turn_in u (shown p es sc) h code Pending) (shown p es sc) ≡ shown (record p { slots = slice_set p.slots h (slot_begun h (slot p h)) }) es sc
 begun_state u p es sc h code =
-    ap (λ (hs : List Hart). record { entries = es; harts = hs; output = p.shared.console; reason = p.shared.reason; script = sc }) (set_shown p.slots h (change.begun h) (begun h (slot p h)) refl)
+    let with_harts : List Hart → State = λ hs. record { entries = es; harts = hs; output = p.shared.console; reason = p.shared.reason; script = sc } in
+    let begin : Hart → Hart → Hart = λ t x. change.begun h t.start t.opaque x in
+    ap (λ (t : Hart). with_harts (slice_set (map resting p.slots) h (begin t (nth (map resting p.slots) h)))) (slot_shown p.slots h)
+    ∙ ap with_harts (set_shown p.slots h (begin (resting (slot p h))) (slot_begun h (slot p h)) refl)
 
 -- of an interrupt
-pub interrupt_state : (u : Setup) (p : PlainState) (es : List Entry) (sc : List Command) (h : ℕ) (code : Code) → is_pending u (shown p es sc) h (memory u (shown p es sc)) ≡ true
+pub interrupt_state : (u : Setup) (p : PlainState) (es : List StoreEntry) (sc : List Command) (h : ℕ) (code : Code) → is_pending_now u (shown p es sc) h ≡ true
     → states_after (running_turn u (shown p es sc) h code) (shown p es sc) ≡ shown (record p { slots = slice_set p.slots h (record (slot p h) { arch = trapped (slot p h).arch software_interrupt 0 }) }) es sc
 interrupt_state u p es sc h code pending =
     let s = shown p es sc in
@@ -79,7 +83,7 @@ interrupt_state u p es sc h code pending =
     ∙ ap (λ (hs : List Hart). record { entries = es; harts = hs; output = p.shared.console; reason = p.shared.reason; script = sc })
     (set_shown p.slots h (λ t. record t { arch = trapped t.arch software_interrupt 0 }) (record (slot p h) { arch = trapped (slot p h).arch software_interrupt 0 }) refl)
 
-pub quiet_state : (u : Setup) (s : State) (h : ℕ) (code : Code) → is_pending u s h (memory u s) ≡ false → states_after (running_turn u s h code) s ≡ states_after (instruction u s h code) s
+pub quiet_state : (u : Setup) (s : State) (h : ℕ) (code : Code) → is_pending_now u s h ≡ false → states_after (running_turn u s h code) s ≡ states_after (instruction u s h code) s
 quiet_state u s h code quiet = ap (λ b. states_after (if b then Event.Interrupt h ∷ [] else instruction u s h code) s) quiet
 
 -- EVENTS IN A ROW
@@ -115,6 +119,10 @@ stops_by h s false false = refl
 
 -- AN INSTRUCTION
 
+-- what the word that the hart holds does now
+abbrev pub outcome_now : Setup → State → (h : ℕ) → Outcome
+outcome_now u s h = performed u s h (need s h)
+
 -- behind its Exec
 abbrev exec_of : State → (h : ℕ) → Outcome → State
 exec_of s h o = record {
@@ -137,8 +145,8 @@ unfolding executing exec_now
 exec_state u s h o right lt =
     let a = first_now u s h (access_of (need s h)) in
     let b = second_now u s h (access_of (need s h)) in
-    states_append (with_stops u s h (Exec h a b (outcome_now u s h))) (flush_events (flushing u s h (need s h))) s
-    ∙ ap (λ x. states_after (with_stops u s h (Exec h a b (outcome_now u s h))) x) (flushes_keep (flushing u s h (need s h)) s)
+    states_append (with_stops u s h (Exec h a b (outcome_now u s h))) (flush_events (flushing (surroundings u s) h (hart s h).arch (need s h))) s
+    ∙ ap (λ x. states_after (with_stops u s h (Exec h a b (outcome_now u s h))) x) (flushes_keep (flushing (surroundings u s) h (hart s h).arch (need s h)) s)
     ∙ ap (λ o. states_after (with_stops u s h (Exec h a b o)) s) right
     ∙ states_append (stops_behind u h (Exec h a b o) (exec_of s h o)) (Exec h a b o ∷ []) s
     ∙ ap (λ n. states_after ((if n == u.limit then Stop h (Reason.Limit h) ∷ [] else []) ++ (if o.stops && all_halted (exec_of s h o) then Stop h Reason.AllStopped ∷ [] else [])) (exec_of s h o)) (exec_count s h o lt)
@@ -148,7 +156,7 @@ exec_state u s h o right lt =
 abbrev pub held_in : List HartSlot → (h : ℕ) → Code → List Hart
 held_in ts h code = slice_set (map resting ts) h (holding (Some code) (slot_at ts h))
 
-fetch_state : (u : Setup) (p : PlainState) (es : List Entry) (sc : List Command) (h : ℕ) (code : Code) → is_leaf_end (fetch_end u (shown p es sc) h) ≡ true
+fetch_state : (u : Setup) (p : PlainState) (es : List StoreEntry) (sc : List Command) (h : ℕ) (code : Code) → is_leaf_end (fetch_end u (shown p es sc) h) ≡ true
     → state_after (fetch_now u (shown p es sc) h code) (shown p es sc) ≡ state_with (held_in p.slots h code) p.shared es sc
 fetch_state u p es sc h code leaf =
     let end = fetch_end u (shown p es sc) h in
@@ -157,7 +165,7 @@ fetch_state u p es sc h code leaf =
     ∙ ap s (fetched_leaf code (resting (slot p h)) (slot p h).arch.pc end leaf)
 
 -- the Exec of a word that a fetch found
-pub leaf_state : (u : Setup) (p : PlainState) (es : List Entry) (sc : List Command) (h : ℕ) (code : Code) → is_leaf_end (fetch_end u (shown p es sc) h) ≡ true
+pub leaf_state : (u : Setup) (p : PlainState) (es : List StoreEntry) (sc : List Command) (h : ℕ) (code : Code) → is_leaf_end (fetch_end u (shown p es sc) h) ≡ true
     → states_after (instruction u (shown p es sc) h code) (shown p es sc)
     ≡ states_after (executing u (state_with (held_in p.slots h code) p.shared es sc) h) (state_with (held_in p.slots h code) p.shared es sc)
 unfolding instruction
@@ -179,9 +187,9 @@ abbrev pub slot_done : HartSlot → Code → Answer → (stops : Bool) → HartS
 slot_done t code answer stops = record t { arch = finish.effect_of t.arch code answer; mode = if stops then Halted else t.mode; count = t.count + 1 }
 
 abbrev pub slots_done : List HartSlot → (h : ℕ) → Code → Answer → (stops : Bool) → Option Starting → List HartSlot
-slots_done ts h code answer stops start = slots.with_start (slice_set ts h (slot_done (slot_at ts h) code answer stops)) start
+slots_done ts h code answer stops start = slots.slots_with_start (slice_set ts h (slot_done (slot_at ts h) code answer stops)) start
 
-done_harts : (ts : List HartSlot) (h : ℕ) (code : Code) (ans : Answer) (en : Option Entry) (bs : List ℕ) (re : Option Reason) (st : Option Starting) (stops : Bool) → h < length ts
+done_harts : (ts : List HartSlot) (h : ℕ) (code : Code) (ans : Answer) (en : Option StoreEntry) (bs : List ℕ) (re : Option Reason) (st : Option Starting) (stops : Bool) → h < length ts
     → change.with_start (slice_set (held_in ts h code) h (executed (outcome ans en bs re st stops) (nth (held_in ts h code) h))) st ≡ map resting (slots_done ts h code ans stops st)
 unfolding executed
 done_harts ts h code ans en bs re st stops lt =
@@ -191,16 +199,16 @@ done_harts ts h code ans en bs re st stops lt =
     ∙ start_shown (slice_set ts h t) st
 
 -- the machine's state behind the word
-abbrev done_shown : List HartSlot → (h : ℕ) → Code → Answer → Option Entry → List ℕ → Option Reason → Option Starting → (stops : Bool) → Shared → List Entry → List Command → Option Reason → State
+abbrev done_shown : List HartSlot → (h : ℕ) → Code → Answer → Option StoreEntry → List ℕ → Option Reason → Option Starting → (stops : Bool) → Shared → List StoreEntry → List Command → Option Reason → State
 done_shown ts h code ans en bs re st stops b es sc limit = record {
   entries = option_to_list en ++ es;
   harts = map resting (slots_done ts h code ans stops st);
   output = change.printed b.console bs;
-  reason = first_reason (first_reason (first_reason b.reason re) (all_reason (stops && slots.all_halted (slots_done ts h code ans stops st)))) limit;
+  reason = first_reason (first_reason (first_reason b.reason re) (all_reason (stops && slots.slots_all_halted (slots_done ts h code ans stops st)))) limit;
   script = sc;
 }
 
-pub done_state : (u : Setup) (ts : List HartSlot) (b : Shared) (es : List Entry) (sc : List Command) (h : ℕ) (code : Code) (ans : Answer) (en : Option Entry) (bs : List ℕ) (re : Option Reason) (st : Option Starting) (stops : Bool)
+pub done_state : (u : Setup) (ts : List HartSlot) (b : Shared) (es : List StoreEntry) (sc : List Command) (h : ℕ) (code : Code) (ans : Answer) (en : Option StoreEntry) (bs : List ℕ) (re : Option Reason) (st : Option Starting) (stops : Bool)
     → h < length ts → outcome_now u (state_with (held_in ts h code) b es sc) h ≡ outcome ans en bs re st stops
     → states_after (executing u (state_with (held_in ts h code) b es sc) h) (state_with (held_in ts h code) b es sc)
     ≡ done_shown ts h code ans en bs re st stops b es sc (limit_reason h ((slot_at ts h).count + 1 == u.limit))
@@ -238,7 +246,7 @@ fault_harts ts h code end cause tval spot =
 fault_count : (ts : List HartSlot) (h : ℕ) (t : HartSlot) → h < length ts → (nth (map resting (slice_set ts h t)) h).count ≡ t.count
 fault_count ts h t lt = ap (λ (x : Hart). x.count) (slot_shown (slice_set ts h t) h) ∙ ap (λ (x : HartSlot). x.count) (get_or-set_same ts h t (new_slot Halted 0) lt)
 
-pub fault_state : (u : Setup) (p : PlainState) (es : List Entry) (sc : List Command) (h : ℕ) (code : Code) (cause tval : ℕ) → h < length p.slots
+pub fault_state : (u : Setup) (p : PlainState) (es : List StoreEntry) (sc : List Command) (h : ℕ) (code : Code) (cause tval : ℕ) → h < length p.slots
     → spot_of Kind.Fetch (slot p h).arch.pc (fetch_end u (shown p es sc) h) ≡ Faults cause tval
     → states_after (instruction u (shown p es sc) h code) (shown p es sc)
     ≡ record { entries = es; harts = map resting (slice_set p.slots h (slot_faulted (slot p h) cause tval)); output = p.shared.console; reason = first_reason p.shared.reason (limit_reason h ((slot p h).count + 1 == u.limit)); script = sc }

@@ -6,28 +6,28 @@ use Rattle.rv64_exec.specs.Code.{Code}
 use Rattle.rv64_exec.specs.declared.needs.Need.{Need}
 use Rattle.rv64_exec.specs.declared.needs.Answer.{Answer}
 use Rattle.rv64_exec.specs.Plan.{need_of, need_of_code}
-use Rattle.ref_machine.specs.declared.reason.Reason.{Reason}
-use Rattle.ref_machine.specs.declared.hart.Mode.TheVariants.{Started}
+use Rattle.machine_model.specs.declared.reason.Reason.{Reason}
+use Rattle.machine_model.specs.declared.mode.Mode.TheVariants.{Started}
 use Rattle.ref_machine.specs.declared.hart.HartSlot.{HartSlot}
-use Rattle.ref_machine.specs.Memory.{Entry}
-use Rattle.ref_machine.specs.Event.{Starting}
-use Rattle.ref_machine.specs.State.{Setup, State, Hart, Command, nth, memory}
-use Rattle.ref_machine.specs.Walks.{need, need_held, access_of, first_now, second_now}
-use Rattle.ref_machine.specs.Perform.{perform}
-use Rattle.ref_machine.specs.Change.{first_reason}
-use Rattle.ref_machine.specs.Run.{is_leaf_end}
-use Rattle.ref_machine.specs.Now.{is_pending, fetch_end, outcome_now}
-use Rattle.ref_machine.specs.Plain.{after_turn}
+use Rattle.machine_model.specs.Memory.{StoreEntry}
+use Rattle.machine_model.specs.Event.{Starting}
+use Rattle.machine_model.specs.State.{Setup, State, Hart, Command, nth}
+use Rattle.machine_model.specs.Walks.{need, need_held}
+use Rattle.machine_model.specs.Perform.{perform}
+use Rattle.machine_model.specs.Change.{first_reason}
+use Rattle.machine_model.specs.Run.{is_leaf_end}
+use Rattle.machine_model.specs.Now.{is_pending_now, fetch_end}
+use Rattle.machine_model.specs.Plain.{after_turn}
 use Rattle.ref_machine.specs.Slots.{slot_at, modes_of}
 use Rattle.ref_machine.specs.SharedState.{Shared}
 use Rattle.ref_machine.specs.PlainState.{PlainState, slot}
 use Rattle.ref_machine.specs.OneTurn.{Effect, answers, effect_of_need, effect_of_call, call_of, limited, last_stopped, after_need, after_word, after_done}
 use Rattle.ref_machine.specs.Shows.{Shows, resting, shown}
-use Rattle.ref_machine.proofs.Harts.{kept}
-use Rattle.ref_machine.proofs.Served.{Does, ShowsHart, state_with, need_does, ram_does}
+use Rattle.machine_model.proofs.Harts.{kept}
+use Rattle.ref_machine.proofs.Served.{Does, ShowsHart, state_with, performed, need_does, ram_does}
 use Rattle.ref_machine.proofs.Called.{call_does}
 use Rattle.ref_machine.proofs.KeptSlots.{called_length}
-use Rattle.ref_machine.proofs.Turns.{slot_shown, taken, quiet_state, leaf_state, held_in, held_hart, slot_done, slots_done, done_state}
+use Rattle.ref_machine.proofs.Turns.{outcome_now, slot_shown, taken, quiet_state, leaf_state, held_in, held_hart, slot_done, slots_done, done_state}
 
 -- the machine behind a word with this effect
 abbrev pub after_code : PlainState → (h : ℕ) → Code → Effect → Option Starting → (stops : Bool) → PlainState
@@ -40,7 +40,7 @@ pub record IsFound (u : Setup) (p : PlainState) (s : State) (k : Shows u p s) (h
   pub there : h < length p.slots
   pub going : p.shared.reason ≡ None
   pub started : (slot p h).mode ≡ Started
-  pub quiet : is_pending u (shown p k.entries k.script) h (memory u (shown p k.entries k.script)) ≡ false
+  pub quiet : is_pending_now u (shown p k.entries k.script) h ≡ false
   pub leaf : is_leaf_end (fetch_end u (shown p k.entries k.script) h) ≡ true
 
 first_none : (r : Option Reason) → first_reason None r ≡ r
@@ -93,13 +93,12 @@ held_modes ts h code g =
     ∙ ap (λ (t : Hart). t.mode) (slot_shown ts g)
 
 -- its need
-outcome_is : (u : Setup) (ts : List HartSlot) (b : Shared) (es : List Entry) (sc : List Command) (h : ℕ) (code : Code) → h < length ts → (n : Need) → need_of_code (slot_at ts h).arch code ≡ n
-    → outcome_now u (state_with (held_in ts h code) b es sc) h
-    ≡ perform u (state_with (held_in ts h code) b es sc) h (first_now u (state_with (held_in ts h code) b es sc) h (access_of n)) (second_now u (state_with (held_in ts h code) b es sc) h (access_of n)) n
+outcome_is : (u : Setup) (ts : List HartSlot) (b : Shared) (es : List StoreEntry) (sc : List Command) (h : ℕ) (code : Code) → h < length ts → (n : Need) → need_of_code (slot_at ts h).arch code ≡ n
+    → outcome_now u (state_with (held_in ts h code) b es sc) h ≡ performed u (state_with (held_in ts h code) b es sc) h n
 outcome_is u ts b es sc h code lt n is =
     let s = state_with (held_in ts h code) b es sc in
     let held : need s h ≡ n = ap (λ (t : Hart). need_held t.arch t.held) (held_hart ts h code lt) ∙ is in
-    ap (λ x. perform u s h (first_now u s h (access_of x)) (second_now u s h (access_of x)) x) held
+    ap (performed u s h) held
 
 -- a need that isn't a call
 alone_turn : (u : Setup) (p : PlainState) (s : State) (k : Shows u p s) (h : ℕ) (word : ℕ) (i : Instr) → IsFound u p s k h → (n : Need) → need_of (slot p h).arch i ≡ n → (n ≡ Need.Sbi → ⊥)

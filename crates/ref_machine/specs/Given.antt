@@ -6,14 +6,14 @@ use Rattle.rv64_priv.specs.State.{Arch}
 use Rattle.rv64_exec.specs.declared.needs.Answer.{Answer}
 use Rattle.rv64_exec.specs.declared.needs.Need.{Need}
 use Rattle.rv64_exec.specs.Plan.{need_of}
-use Rattle.ref_machine.specs.declared.reason.Reason.{Reason}
+use Rattle.machine_model.specs.declared.reason.Reason.{Reason}
 use Rattle.ref_machine.specs.declared.translation.Fault.{Fault}
 use Rattle.ref_machine.specs.declared.atomics.Reserved.{Reserved}
 use Rattle.ref_machine.specs.declared.hart.HartSlot.{HartSlot}
 use Rattle.ref_machine.specs.declared.calls.Call.{Call as Kept}
 use Rattle.ref_machine.specs.declared.calling.Served.{Served}
-use Rattle.ref_machine.specs.Event.{Starting}
-use Rattle.ref_machine.specs.Perform.{called}
+use Rattle.machine_model.specs.Event.{Starting}
+use Rattle.machine_model.specs.Perform.{call_outcome}
 use Rattle.ref_machine.specs.Calls.{says}
 use Rattle.ref_machine.specs.SharedState.{Shared, ram_memory}
 use Rattle.ref_machine.specs.OneTurn.{Done, Alone, Calls, effect_called, room}
@@ -85,5 +85,5 @@ IsTargetIn harts _ = Unit {0}
 -- what came of a call
 abbrev pub IsServed : Shared → Shared → Kept → Served → Type 0
 IsServed b b' call served =
-    effect_called b (called (λ word. b.ipi) (room b) (says (ram_memory b.ram) call))
+    effect_called b (call_outcome (λ word. b.ipi) (room b) (says (ram_memory b.ram) call))
     ≡ record { answer = served.answer; shared = b'; reason = served.reason; starts = starts_of call; stops = stops_of call }

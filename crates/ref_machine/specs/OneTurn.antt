@@ -4,10 +4,9 @@ use Rattle.rv64_decode.specs.declared.instruction.Instr.{Instr}
 use Rattle.rv64_decode.specs.Encoding.{Decodes}
 use Rattle.rv64_priv.specs.State.{Arch}
 use Rattle.rv64_priv.specs.declared.state.Kind.{Kind}
-use Rattle.rv64_priv.specs.Bits.{is_set}
 use Rattle.rv64_priv.specs.Csr.{regime}
 use Rattle.rv64_priv.specs.Pte.{is_bare}
-use Rattle.rv64_priv.specs.Trap.{trapped, takes_interrupts, software_interrupt}
+use Rattle.rv64_priv.specs.Trap.{trapped, software_interrupt}
 use Rattle.rv64_priv.specs.Walk.{Walked, walk_of}
 use Rattle.rv64_exec.specs.declared.needs.AmoOp.{AmoOp}
 use Rattle.rv64_exec.specs.declared.needs.IpiOp.{IpiOp}
@@ -16,18 +15,20 @@ use Rattle.rv64_exec.specs.declared.needs.Answer.{Answer}
 use Rattle.rv64_exec.specs.Plan.{need_of}
 use Rattle.rv64_exec.specs.Finish.{after}
 use Rattle.step_laws.specs.Words.{first_ram_word}
-use Rattle.ref_machine.specs.declared.reason.Reason.{Reason}
-use Rattle.ref_machine.specs.declared.hart.Mode.{Mode}
-use Rattle.ref_machine.specs.declared.hart.Mode.TheVariants.{Started, Halted, Pending}
+use Rattle.step_laws.specs.Map.{console_places}
+use Rattle.machine_model.specs.declared.reason.Reason.{Reason}
+use Rattle.machine_model.specs.declared.mode.Mode.{Mode}
+use Rattle.machine_model.specs.declared.mode.Mode.TheVariants.{Started, Halted, Pending}
 use Rattle.ref_machine.specs.declared.hart.HartSlot.{HartSlot}
-use Rattle.ref_machine.specs.Memory.{Entry, One}
-use Rattle.ref_machine.specs.Event.{Outcome, Starting}
-use Rattle.ref_machine.specs.Access.{Spot, AtRam, AtDevice, Faults, Reach, InRam, spot_of, second_va, reach, code_word}
-use Rattle.ref_machine.specs.Sbi.{Call, sbi_of}
-use Rattle.ref_machine.specs.Perform.{console_places, faults, loaded, stored, width_of, is_misaligned, amo_done, reserve, conditionally, sip_value, called}
-use Rattle.ref_machine.specs.Change as change
-use Rattle.ref_machine.specs.Change.{first_reason}
-use Rattle.ref_machine.specs.Slots.{slot_at, modes_of, all_halted, begun, with_start}
+use Rattle.machine_model.specs.Memory.{StoreEntry, One}
+use Rattle.machine_model.specs.Event.{Outcome, Starting}
+use Rattle.machine_model.specs.Access.{Spot, AtRam, AtDevice, Faults, Reach, InRam, spot_of, second_va, reach, code_word}
+use Rattle.machine_model.specs.Sbi.{Call, sbi_of}
+use Rattle.machine_model.specs.Perform.{fault_outcome, load_outcome, store_outcome, width_of, is_misaligned, amo_outcome, lr_outcome, sc_outcome, sip_value, call_outcome}
+use Rattle.machine_model.specs.Lawful.{is_pending}
+use Rattle.machine_model.specs.Change as change
+use Rattle.machine_model.specs.Change.{first_reason}
+use Rattle.ref_machine.specs.Slots.{slot_at, modes_of, slots_all_halted, slot_begun, slots_with_start}
 use Rattle.ref_machine.specs.SharedState.{Shared, ram_memory, ram_reads, ram_after}
 use Rattle.ref_machine.specs.PlainState.{PlainState, slot, with_slot}
 
@@ -62,8 +63,8 @@ pub record Effect : Type 0 where
   pub stops : Bool
 
 -- an outcome that leaves the IPI word
-abbrev pub effect_of : Shared → Outcome → Effect
-effect_of b o = record {
+abbrev pub effect_on : Shared → Outcome → Effect
+effect_on b o = record {
   answer = o.answer;
   shared = record b { ram = ram_after b.ram o.entry; console = change.printed b.console o.bytes };
   reason = o.reason;
@@ -89,20 +90,20 @@ ipi_after IpiOp.Clear ipi h = ipi - bit_and ipi (2 ^ h)
 -- what an AMO, an LR and an SC do
 abbrev pub amo_effect : Arch → Shared → (va : ℕ) → AmoOp → Bool → (value : ℕ) → Effect
 amo_effect a b va op wide value =
-    effect_of b (if is_misaligned wide va then faults 6 va else amo_done (ram_memory b.ram) va op wide value (reach_of a b Kind.Store va (width_of wide)))
+    effect_on b (if is_misaligned wide va then fault_outcome 6 va else amo_outcome (ram_memory b.ram) va op wide value (reach_of a b Kind.Store va (width_of wide)))
 
 abbrev pub reserve_effect : Arch → Shared → (va : ℕ) → Bool → Effect
 reserve_effect a b va wide =
-    effect_of b (if is_misaligned wide va then faults 4 va else reserve (ram_memory b.ram) va wide (reach_of a b Kind.Load va (width_of wide)))
+    effect_on b (if is_misaligned wide va then fault_outcome 4 va else lr_outcome (ram_memory b.ram) va wide (reach_of a b Kind.Load va (width_of wide)))
 
 abbrev pub conditional_effect : Arch → Shared → (va : ℕ) → Bool → (value : ℕ) → Effect
 conditional_effect a b va wide value =
-    effect_of b (if is_misaligned wide va then faults 6 va else conditionally (ram_memory b.ram) a va wide value (reach_of a b Kind.Store va (width_of wide)))
+    effect_on b (if is_misaligned wide va then fault_outcome 6 va else sc_outcome (ram_memory b.ram) a va wide value (reach_of a b Kind.Store va (width_of wide)))
 
 -- what a need of hart h does, other than a call
 abbrev pub effect_of_need : (h : ℕ) → Arch → Shared → Need → Effect
-effect_of_need h a b (Need.Load va width sign) = effect_of b (loaded (ram_memory b.ram) va width sign (reach_of a b Kind.Load va width))
-effect_of_need h a b (Need.Store va width value) = effect_of b (stored (ram_memory b.ram) (room b) va width value (reach_of a b Kind.Store va width))
+effect_of_need h a b (Need.Load va width sign) = effect_on b (load_outcome (ram_memory b.ram) va width sign (reach_of a b Kind.Load va width))
+effect_of_need h a b (Need.Store va width value) = effect_on b (store_outcome (ram_memory b.ram) (room b) va width value (reach_of a b Kind.Store va width))
 effect_of_need h a b (Need.Amo va op wide value) = amo_effect a b va op wide value
 effect_of_need h a b (Need.Lr va wide) = reserve_effect a b va wide
 effect_of_need h a b (Need.Sc va wide value) = conditional_effect a b va wide value
@@ -111,7 +112,7 @@ effect_of_need h a b (Need.Trap cause tval) = answers b (Answer.Fault cause tval
 effect_of_need h a b _ = answers b Answer.Nothing
 
 -- what a call does: of memory's words it writes IPI alone
-abbrev pub ipi_entered : ℕ → Option Entry → ℕ
+abbrev pub ipi_entered : ℕ → Option StoreEntry → ℕ
 ipi_entered ipi (Some (w ∷ es)) = w.value
 ipi_entered ipi _ = ipi
 
@@ -125,7 +126,7 @@ effect_called b o = record {
 }
 
 abbrev pub effect_of_call : Shared → Call → Effect
-effect_of_call b call = effect_called b (called (λ word. b.ipi) (room b) call)
+effect_of_call b call = effect_called b (call_outcome (λ word. b.ipi) (room b) call)
 
 abbrev pub call_of : List HartSlot → Shared → (h : ℕ) → Call
 call_of slots b h = sbi_of b.layout (modes_of slots) (ram_memory b.ram) (slot_at slots h).arch
@@ -167,7 +168,7 @@ after_word h t b word None = faulted h t b 2 word
 after_word h t b word (Some i) = after_need h t b i (need_of t.arch i)
 
 -- a word decodes in one way, and is done
-pub record IsDone (h : ℕ) (t : HartSlot) (b : Shared) (word : ℕ) (d : Done) : Type 0 where
+pub record IsWordDone (h : ℕ) (t : HartSlot) (b : Shared) (word : ℕ) (d : Done) : Type 0 where
   pub found : Option Instr
   pub decodes : Decodes word found
   pub only : (other : Option Instr) → Decodes word other → found ≡ other
@@ -175,28 +176,24 @@ pub record IsDone (h : ℕ) (t : HartSlot) (b : Shared) (word : ℕ) (d : Done) 
 
 -- a turn whose fetch leads there; none leads to a device
 abbrev pub IsFetched : (h : ℕ) → HartSlot → Shared → Done → Spot → Type 0
-IsFetched h t b d (AtRam pa) = IsDone h t b (code_word (ram_memory b.ram) pa) d
+IsFetched h t b d (AtRam pa) = IsWordDone h t b (code_word (ram_memory b.ram) pa) d
 IsFetched h t b d (AtDevice pa) = ⊥
 IsFetched h t b d (Faults cause tval) = d ≡ faulted h t b cause tval
 
--- an enabled interrupt is pending
-abbrev pub is_pending : (h : ℕ) → Arch → Shared → Bool
-is_pending h a b = takes_interrupts a && is_set b.ipi h
-
 -- a turn of a running hart
 abbrev pub IsStep : (h : ℕ) → HartSlot → Shared → Done → Type 0
-IsStep h t b d = MatchBool (is_pending h t.arch b) (d ≡ interrupted t b) (IsFetched h t b d (spot_of Kind.Fetch t.arch.pc (walk_end t.arch b Kind.Fetch t.arch.pc)))
+IsStep h t b d = MatchBool (is_pending t.arch h b.ipi) (d ≡ interrupted t b) (IsFetched h t b d (spot_of Kind.Fetch t.arch.pc (walk_end t.arch b Kind.Fetch t.arch.pc)))
 
 -- behind a call: its hart is done, and perhaps stopped, and another hart's start is pending
 abbrev pub slot_called : HartSlot → Instr → Answer → (stops : Bool) → HartSlot
 slot_called t i answer stops = record (slot_after t i answer) { mode = if stops then Halted else t.mode }
 
 abbrev pub slots_called : List HartSlot → (h : ℕ) → Instr → Effect → List HartSlot
-slots_called slots h i e = with_start (slice_set slots h (slot_called (slot_at slots h) i e.answer e.stops)) e.starts
+slots_called slots h i e = slots_with_start (slice_set slots h (slot_called (slot_at slots h) i e.answer e.stops)) e.starts
 
 -- no hart is left
 abbrev pub last_stopped : List HartSlot → (stops : Bool) → Option Reason
-last_stopped slots stops = if stops && all_halted slots then Some Reason.AllStopped else None
+last_stopped slots stops = if stops && slots_all_halted slots then Some Reason.AllStopped else None
 
 abbrev pub shared_called : List HartSlot → HartSlot → (h : ℕ) → Effect → Shared
 shared_called slots t h e = shared_after h t e.shared (first_reason e.reason (last_stopped slots e.stops))
@@ -216,5 +213,5 @@ pub record IsStepped (h : ℕ) (p q : PlainState) : Type 0 where
 
 abbrev pub IsTurn : (h : ℕ) → PlainState → PlainState → Mode → Type 0
 IsTurn h p q Halted = q ≡ p
-IsTurn h p q Pending = q ≡ with_slot p h (begun h (slot p h))
+IsTurn h p q Pending = q ≡ with_slot p h (slot_begun h (slot p h))
 IsTurn h p q Started = IsStepped h p q

@@ -1,6 +1,6 @@
 -- What the machine on one thread keeps.
 use Rattle.std.specs.Prelude.{◌≡◌, ℕ, ◌-◌, ◌%◌, ◌<◌, ◌≤◌, List, ◌∷◌, length, replicate, IsNone, slice_set, vec_len}
-use Rattle.ref_machine.specs.declared.hart.Mode.TheVariants.{Started, Halted}
+use Rattle.machine_model.specs.declared.mode.Mode.TheVariants.{Started, Halted}
 use Rattle.ref_machine.specs.declared.hart.HartSlot.{HartSlot}
 use Rattle.ref_machine.specs.declared.machine.PlainMachine.TheInside.{Inside}
 use Rattle.ref_machine.specs.SharedState.{Shared}
@@ -24,8 +24,8 @@ pub record IsSlotKept (b : Shared) (t : HartSlot) : Type 0 where
 abbrev pub AreKept : Shared → List HartSlot → Type 0
 AreKept b slots = (h : ℕ) → h < length slots → IsSlotKept b (slot_at slots h)
 
-abbrev pub view_of : Inside → PlainState
-view_of m = record { slots = m.slots.items; shared = m.shared }
+abbrev pub state_view : Inside → PlainState
+state_view m = record { slots = m.slots.items; shared = m.shared }
 
 -- all harts are there
 pub record IsKept (m : Inside) : Type 0 where

@@ -1,9 +1,9 @@
 -- Turns in a row: a plain run goes on by them.
 use Rattle.std.specs.Prelude.{◌≡◌, ℕ, List, ◌++◌}
-use Rattle.ref_machine.specs.Event.{Event}
-use Rattle.ref_machine.specs.State.{Setup}
-use Rattle.ref_machine.specs.Run.{state_of}
-use Rattle.ref_machine.specs.Plain.{IsPlainRun}
+use Rattle.machine_model.specs.Event.{Event}
+use Rattle.machine_model.specs.State.{Setup}
+use Rattle.machine_model.specs.Run.{state_of}
+use Rattle.machine_model.specs.Plain.{IsPlainRun}
 use Rattle.ref_machine.specs.PlainState.{PlainState}
 use Rattle.ref_machine.specs.Shows.{Shows}
 

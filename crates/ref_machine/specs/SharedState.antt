@@ -6,10 +6,10 @@ use Rattle.elf_load.specs.Loaded.{Loaded}
 use Rattle.step_laws.specs.declared.words.Layout.{Layout}
 use Rattle.step_laws.specs.Words.{first_ram_word}
 use Rattle.rv64_priv.specs.Walk.{Levels}
-use Rattle.ref_machine.specs.declared.reason.Reason.{Reason}
+use Rattle.machine_model.specs.declared.reason.Reason.{Reason}
 use Rattle.ref_machine.specs.declared.shared.Shared.TheInside.{Inside}
-use Rattle.ref_machine.specs.Memory.{Memory, Write, Entry}
-use Rattle.ref_machine.specs.Perform.{console_places}
+use Rattle.machine_model.specs.Memory.{Memory, Write, StoreEntry}
+use Rattle.step_laws.specs.Map.{console_places}
 
 pub record Shared : Type 0 where
   pub layout : Layout
@@ -46,7 +46,7 @@ ram_reads ram level pa = slice_index ram ((pa - 2 ^ 31) / 8)
 abbrev pub ram_with : List ℕ → Write → List ℕ
 ram_with ram w = slice_set ram (w.word - first_ram_word) w.value
 
-abbrev pub ram_after : List ℕ → Option Entry → List ℕ
+abbrev pub ram_after : List ℕ → Option StoreEntry → List ℕ
 ram_after ram None = ram
 ram_after ram (Some entry) = fold ram_with ram entry
 

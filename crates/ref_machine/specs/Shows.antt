@@ -1,22 +1,14 @@
 -- How what the machine keeps shows the reference machine's state: it has the present words alone.
-use Rattle.std.specs.Prelude.{◌≡◌, ℕ, ◌<◌, ◌+◌, ◌*◌, List, [], length, map, Option, None, slice_index}
+use Rattle.std.specs.Prelude.{◌≡◌, ℕ, ◌<◌, ◌+◌, ◌*◌, List, length, map, Option, None, slice_index}
 use Rattle.rv64_exec.specs.Code.{Code}
-use Rattle.elf_load.specs.Loaded.{Loaded}
-use Rattle.step_laws.specs.declared.words.Layout.{Layout}
 use Rattle.step_laws.specs.Words.{first_ram_word, ipi_word}
 use Rattle.ref_machine.specs.declared.hart.HartSlot.{HartSlot}
-use Rattle.ref_machine.specs.Memory.{Memory, Entry, written}
-use Rattle.ref_machine.specs.Image.{image_memory}
-use Rattle.ref_machine.specs.State.{Setup, State, Hart, Command}
-use Rattle.ref_machine.specs.Now.{IsNext}
-use Rattle.ref_machine.specs.Plain.{after_turn}
+use Rattle.machine_model.specs.Memory.{Memory, StoreEntry, written}
+use Rattle.machine_model.specs.State.{Setup, State, Hart, Command}
+use Rattle.machine_model.specs.Now.{IsNext}
+use Rattle.machine_model.specs.Plain.{after_turn}
 use Rattle.ref_machine.specs.SharedState.{Shared}
 use Rattle.ref_machine.specs.PlainState.{PlainState}
-
--- the setup of a machine with this image and no script
-abbrev pub setup_of : Layout → List ℕ → Loaded → (limit : ℕ) → Setup
-setup_of layout file image limit =
-    record { layout = layout; image = image_memory file image.parts; start = image.start; limit = limit; script = [] }
 
 -- a hart that may hold a word
 abbrev pub holding : Option Code → HartSlot → Hart
@@ -26,7 +18,7 @@ holding held t = record { arch = t.arch; mode = t.mode; start = t.start; opaque 
 abbrev pub resting : HartSlot → Hart
 resting t = holding None t
 
-abbrev pub shown : PlainState → List Entry → List Command → State
+abbrev pub shown : PlainState → List StoreEntry → List Command → State
 shown p entries script =
     record { entries = entries; harts = map resting p.slots; output = p.shared.console; reason = p.shared.reason; script = script }
 
@@ -39,7 +31,7 @@ pub record ShowsMemory (b : Shared) (m : Memory) : Type 0 where
   pub ipi : m ipi_word ≡ b.ipi
 
 pub record Shows (u : Setup) (p : PlainState) (s : State) : Type 0 where
-  pub entries : List Entry
+  pub entries : List StoreEntry
   pub script : List Command
   pub state : s ≡ shown p entries script
   pub there : length p.slots ≡ u.layout.harts

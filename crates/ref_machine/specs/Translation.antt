@@ -7,8 +7,8 @@ use Rattle.ref_machine.specs.declared.translation.WalkEnd.{WalkEnd}
 use Rattle.ref_machine.specs.declared.translation.Spot.{Spot as Place}
 use Rattle.ref_machine.specs.declared.translation.Fault.{Fault as TheFault}
 use Rattle.ref_machine.specs.declared.translation.Reach.{Reach as Reached}
-use Rattle.ref_machine.specs.Memory.{One, Two}
-use Rattle.ref_machine.specs.Access.{Spot, AtRam, AtDevice, Faults, Reach, InRam, OnDevice, Fault, code_word}
+use Rattle.machine_model.specs.Memory.{One, Two}
+use Rattle.machine_model.specs.Access.{Spot, AtRam, AtDevice, Faults, Reach, InRam, OnDevice, Unreached, code_word}
 use Rattle.ref_machine.specs.SharedState.{ram_memory}
 
 abbrev pub end_of : WalkEnd → Walked
@@ -37,7 +37,7 @@ abbrev pub reached_as : (width : ℕ) → Reached → Reach
 reached_as width (Reached.Word index offset) = InRam (One (first_ram_word + index) offset width)
 reached_as width (Reached.Words first second offset) = InRam (Two (first_ram_word + first) (first_ram_word + second) offset width)
 reached_as width (Reached.Device pa) = OnDevice pa
-reached_as width (Reached.Faults fault) = Fault fault.cause fault.tval
+reached_as width (Reached.Faults fault) = Unreached fault.cause fault.tval
 
 -- its words are there, and it lies in them
 abbrev pub IsInside : (words width : ℕ) → Reached → Type 0
@@ -54,9 +54,9 @@ IsSpotIn pages va (AtRam pa) = IsInRam pages va pa
 IsSpotIn pages va _ = Unit {0}
 
 -- a leaf's page can be reached, begins a page, and lies below 4 GiB
-abbrev pub IsSound : (pages : ℕ) → Kind → Walked → Type 0
-IsSound pages kind (Leaf pte page level) = (is_reachable pages kind page ≡ true) × (page % 4096 ≡ 0)
-IsSound pages kind _ = Unit {0}
+abbrev pub IsSoundEnd : (pages : ℕ) → Kind → Walked → Type 0
+IsSoundEnd pages kind (Leaf pte page level) = (is_reachable pages kind page ≡ true) × (page % 4096 ≡ 0)
+IsSoundEnd pages kind _ = Unit {0}
 
 abbrev pub IsSmall : Walked → Type 0
 IsSmall (Leaf pte page level) = page < 2 ^ 32

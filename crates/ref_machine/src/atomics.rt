@@ -2,14 +2,14 @@
 // Atomic Instructions).
 ghost use Rattle.std.specs.Prelude.{◌≡◌, ◌<◌, ◌≤◌, ◌%◌, ◌^◌, length, IfOk};
 ghost use Rattle.rv64_priv.specs.declared.state.Kind.{Kind as TheKind};
-ghost use Rattle.ref_machine.specs.Perform as perform;
+ghost use Rattle.machine_model.specs.Perform as perform;
 ghost use Rattle.ref_machine.specs.OneTurn as one;
 ghost use Rattle.ref_machine.specs.Atomics as atomics;
 ghost use Rattle.ref_machine.specs.Given.{load_answer, reserve_answer, conditional_answer};
 
-use crate::bytes::{extended, part, replace};
 use crate::shared::Shared;
 use crate::translation::{Fault, Spot, translate};
+use machine_model::{extended, number_in, replace_in};
 use rv64_exec::{AmoOp, Arch, Hold, Kind};
 use rv64_priv::access_fault;
 use step_laws::RAM_BASE;
@@ -92,7 +92,7 @@ fn combine(op: AmoOp, wide: bool, old: u64, value: u64) -> u64
 /// A hold is of this address and width, and memory's word is the held one.
 fn is_held(hold: Option<Hold>, pa: u64, wide: bool, word: u64) -> bool
     requires { 2 ^ 31 ≤ pa }
-    ensures { result ≡ perform.holds (λ _. word) (atomics.span_at wide pa) wide hold }
+    ensures { result ≡ perform.hold_stands (λ _. word) (atomics.span_at wide pa) wide hold }
 {
     hold.is_some_and(|hold| hold.pa == pa && hold.wide == wide && hold.word == word)
 }
@@ -102,7 +102,7 @@ impl Shared {
     /// on a device behind it.
     #[inline(never)]
     fn atomic_place(&self, arch: &Arch, kind: Kind, va: u64, wide: bool) -> Result<u64, Fault>
-        ensures reach { atomics.reached wide result ≡ atomics.atomic_reach arch.now self.now kind va wide }
+        ensures reach { atomics.atomic_reached wide result ≡ atomics.atomic_reach arch.now self.now kind va wide }
         ensures inside { IfOk result (λ pa. atomics.IsWithin (length self.now.ram) wide pa) }
     {
         if is_misaligned(wide, va) {
@@ -138,8 +138,8 @@ impl Shared {
         let index = ((pa - RAM_BASE) / 8) as usize;
         let width = width_of(wide);
         let word = self.ram[index];
-        let old = part(word, pa % 8, width);
-        self.ram[index] = replace(word, pa % 8, width, combine(op, wide, old, value));
+        let old = number_in(word, pa % 8, width);
+        self.ram[index] = replace_in(word, pa % 8, width, combine(op, wide, old, value));
         Ok(extended(true, width, old))
     }
 
@@ -151,7 +151,7 @@ impl Shared {
         let pa = self.atomic_place(arch, Kind::Load, va, wide)?;
         let width = width_of(wide);
         let word = self.ram[((pa - RAM_BASE) / 8) as usize];
-        let value = extended(true, width, part(word, pa % 8, width));
+        let value = extended(true, width, number_in(word, pa % 8, width));
         Ok(Reserved {
             value,
             hold: Hold { pa, wide, word },
@@ -176,7 +176,7 @@ impl Shared {
         let word = self.ram[index];
         let stored = is_held(arch.hold, pa, wide, word);
         if stored {
-            self.ram[index] = replace(word, pa % 8, width_of(wide), value);
+            self.ram[index] = replace_in(word, pa % 8, width_of(wide), value);
         }
         Ok(stored)
     }

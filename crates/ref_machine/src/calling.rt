@@ -7,18 +7,18 @@ ghost use Rattle.rv64_exec.specs.declared.needs.Need.{Need as TheNeed};
 ghost use Rattle.rv64_exec.specs.declared.needs.Answer.{Answer as TheAnswer};
 ghost use Rattle.ref_machine.specs.PlainState.{AreKept};
 ghost use Rattle.ref_machine.specs.SharedState.{ram_memory};
-ghost use Rattle.ref_machine.specs.Change.{first_reason};
-ghost use Rattle.ref_machine.specs.Slots.{slot_at, awaited, all_halted, with_start};
+ghost use Rattle.machine_model.specs.Change.{first_reason};
+ghost use Rattle.ref_machine.specs.Slots.{slot_at, slot_awaited, slots_all_halted, slots_with_start};
 ghost use Rattle.ref_machine.specs.OneTurn as one;
-ghost use Rattle.ref_machine.specs.Perform as perform;
-ghost use Rattle.ref_machine.specs.Sbi.{bytes_from, byte_at};
+ghost use Rattle.machine_model.specs.Perform as perform;
+ghost use Rattle.machine_model.specs.Sbi.{bytes_from, byte_at};
 ghost use Rattle.ref_machine.specs.Calls as calls;
 ghost use Rattle.ref_machine.specs.Given.{IsCall, IsServed, IsTargetIn, printed_answer, starts_of, stops_of};
 
 use crate::calls::{Call, call_of};
-use crate::hart::{HartSlot, Mode};
-use crate::reason::Reason;
+use crate::hart::HartSlot;
 use crate::shared::{CONSOLE_BYTES, Shared};
+use machine_model::{Mode, Reason};
 use rv64_decode::Instr;
 use rv64_exec::{Answer, finish};
 use step_laws::RAM_BASE;
@@ -71,7 +71,7 @@ impl Shared {
     #[tactic(auto, using(crate::proofs::Printing::prints_all, crate::proofs::Printing::prints_some))]
     fn print_from(&mut self, from: u64, count: u64) -> Option<Reason>
         requires { (count ≡ 0) ⊎ ((2 ^ 31 ≤ from) × (from + count ≤ 2 ^ 31 + 4096 * self.old.layout.pages)) }
-        ensures printed { (answer : TheAnswer) → one.effect_called self.old (perform.prints (one.room self.old) (bytes_from (ram_memory self.old.ram) from count) answer) ≡ one.done_with self.new (printed_answer answer result) result }
+        ensures printed { (answer : TheAnswer) → one.effect_called self.old (perform.print_outcome (one.room self.old) (bytes_from (ram_memory self.old.ram) from count) answer) ≡ one.done_with self.new (printed_answer answer result) result }
         ensures rest { self.new ≡ record self.old { console = self.new.console } }
     {
         let room = (CONSOLE_BYTES - self.console.len()) as u64;
@@ -85,7 +85,7 @@ impl Shared {
 
     /// Does a call, but for what it does to harts.
     fn serve(&mut self, call: Call) -> Served
-        requires { calls.IsSound self.old.layout call }
+        requires { calls.IsSoundCall self.old.layout call }
         ensures served { IsServed self.old self.new call result }
         ensures form { Answers TheNeed.Sbi result.answer }
         ensures rest { self.new ≡ record self.old { ipi = self.new.ipi; console = self.new.console } }
@@ -138,13 +138,16 @@ fn finish_call(slots: &mut [HartSlot], hart: u8, instr: &Instr, answer: Answer, 
     }
 }
 
-/// Leaves a hart's start pending.
+/// Leaves a hart's start pending; one that runs would go on, and no call names it.
 fn start_hart(slots: &mut [HartSlot], target: u8, at: u64, opaque: u64)
     requires { target < length slots.old }
-    ensures { slots.new ≡ slice_set slots.old target (awaited (record { target = target; at = at; opaque = opaque }) (slot_at slots.old target)) }
+    ensures { slots.new ≡ slice_set slots.old target (slot_awaited (record { target = target; at = at; opaque = opaque }) (slot_at slots.old target)) }
 {
     let slot = &mut slots[usize::from(target)];
-    slot.mode = Mode::Pending;
+    slot.mode = match slot.mode {
+        Mode::Started => Mode::Started,
+        Mode::Halted | Mode::Pending => Mode::Pending,
+    };
     slot.start = at;
     slot.opaque = opaque;
 }
@@ -152,7 +155,7 @@ fn start_hart(slots: &mut [HartSlot], target: u8, at: u64, opaque: u64)
 /// Leaves pending the start of the hart that a call names.
 fn start_named(slots: &mut [HartSlot], call: Call)
     requires { IsTargetIn (length slots.old) call }
-    ensures { slots.new ≡ with_start slots.old (starts_of call) }
+    ensures { slots.new ≡ slots_with_start slots.old (starts_of call) }
 {
     if let Call::Begins { target, at, opaque } = call {
         start_hart(slots, target, at, opaque);
@@ -168,7 +171,7 @@ fn stops(call: Call) -> bool
 
 /// No hart runs or is about to.
 fn all_halted(slots: &[HartSlot]) -> bool
-    ensures { result ≡ all_halted slots.now }
+    ensures { result ≡ slots_all_halted slots.now }
 {
     slots.iter().all(|slot| slot.mode == Mode::Halted)
 }

@@ -1,20 +1,20 @@
 // The call that a hart's registers name, decided (RISC-V Supervisor Binary Interface Specification).
 ghost use Rattle.std.specs.Prelude.{◌≡◌, ℕ, ◌<◌, ◌≤◌, pos, length};
 ghost use Rattle.step_laws.specs.declared.words.Layout.{Layout as TheLayout};
-ghost use Rattle.ref_machine.specs.Calls.{says, IsSound};
-ghost use Rattle.ref_machine.specs.Memory.{Memory};
-ghost use Rattle.ref_machine.specs.Perform.{called};
-ghost use Rattle.ref_machine.specs.Sbi as sbi;
+ghost use Rattle.ref_machine.specs.Calls.{says, IsSoundCall};
+ghost use Rattle.machine_model.specs.Memory.{Memory};
+ghost use Rattle.machine_model.specs.Perform.{call_outcome};
+ghost use Rattle.machine_model.specs.Sbi as sbi;
 ghost use Rattle.ref_machine.specs.Slots.{modes_of};
 ghost use Rattle.ref_machine.specs.declared.calls.Call.{Call as Decided};
 
 mod fences;
 mod masks;
 
-use crate::hart::{HartSlot, Mode};
-use crate::reason::Reason;
+use crate::hart::HartSlot;
 use crate::translation::is_ram;
 use fences::is_past_end;
+use machine_model::{Mode, Reason};
 use masks::named_bits;
 use rv64_exec::Arch;
 use step_laws::{Layout, PAGE_BYTES, RAM_BASE};
@@ -110,7 +110,7 @@ fn is_known(extension: u64) -> bool
 
 fn base_call(arch: &Arch, function: u64) -> Call
     ensures says { (m : Memory) → says m result ≡ sbi.base_call arch.now function }
-    ensures sound { (l : TheLayout) → IsSound l result }
+    ensures sound { (l : TheLayout) → IsSoundCall l result }
 {
     match function {
         0 => succeeds(SPEC_VERSION),
@@ -125,7 +125,7 @@ fn base_call(arch: &Arch, function: u64) -> Call
 fn ipi_call(harts: u8, arch: &Arch, function: u64) -> Call
     requires { harts ≤ 8 }
     ensures says { (m : Memory) → says m result ≡ sbi.ipi_call harts arch.now function }
-    ensures sound { (l : TheLayout) → IsSound l result }
+    ensures sound { (l : TheLayout) → IsSoundCall l result }
 {
     if function != 0 {
         return fails(NOT_SUPPORTED);
@@ -138,8 +138,8 @@ fn ipi_call(harts: u8, arch: &Arch, function: u64) -> Call
 
 fn rfence_call(harts: u8, arch: &Arch, function: u64) -> Call
     requires { harts ≤ 8 }
-    ensures says { (m now : Memory) (room : ℕ) → called now room (says m result) ≡ called now room (sbi.rfence_call harts arch.now function) }
-    ensures sound { (l : TheLayout) → IsSound l result }
+    ensures says { (m now : Memory) (room : ℕ) → call_outcome now room (says m result) ≡ call_outcome now room (sbi.rfence_call harts arch.now function) }
+    ensures sound { (l : TheLayout) → IsSoundCall l result }
 {
     if function > 2 {
         return fails(NOT_SUPPORTED);
@@ -164,7 +164,7 @@ fn start_call(layout: Layout, slots: &[HartSlot], arch: &Arch) -> Call
     requires there { length slots.now ≡ layout.harts }
     requires pages { layout.pages ≤ 4096 }
     ensures says { (m : Memory) → says m result ≡ sbi.start_call layout (modes_of slots.now) arch.now }
-    ensures sound { IsSound layout result }
+    ensures sound { IsSoundCall layout result }
 {
     let hart = arg(arch, 0);
     let at = arg(arch, 1);
@@ -198,7 +198,7 @@ fn hsm_call(layout: Layout, slots: &[HartSlot], arch: &Arch, function: u64) -> C
     requires there { length slots.now ≡ layout.harts }
     requires pages { layout.pages ≤ 4096 }
     ensures says { (m : Memory) → says m result ≡ sbi.hsm_call layout (modes_of slots.now) arch.now function }
-    ensures sound { IsSound layout result }
+    ensures sound { IsSoundCall layout result }
 {
     match function {
         0 => start_call(layout, slots, arch),
@@ -218,7 +218,7 @@ fn hsm_call(layout: Layout, slots: &[HartSlot], arch: &Arch, function: u64) -> C
 /// A reset to start again, cold or warm, is one that the SBI names and this machine does not have.
 fn reset_call(kind: u64, reason: u64) -> Call
     ensures says { (m : Memory) → says m result ≡ sbi.reset_call kind reason }
-    ensures sound { (l : TheLayout) → IsSound l result }
+    ensures sound { (l : TheLayout) → IsSoundCall l result }
 {
     match (kind, reason) {
         (0, 0) => Call::EndsAll(Reason::Pass),
@@ -231,7 +231,7 @@ fn reset_call(kind: u64, reason: u64) -> Call
 /// Every byte of the range is in RAM.
 fn is_in_ram(pages: u32, from: u64, count: u64) -> bool
     requires { pages ≤ 4096 }
-    ensures { result ≡ sbi.in_ram pages from count }
+    ensures { result ≡ sbi.is_range_in_ram pages from count }
 {
     let end = RAM_BASE + PAGE_BYTES * u64::from(pages);
     count == 0 || (RAM_BASE <= from && from <= end && count <= end - from)
@@ -240,7 +240,7 @@ fn is_in_ram(pages: u32, from: u64, count: u64) -> bool
 fn console_call(layout: Layout, arch: &Arch, function: u64) -> Call
     requires { layout.pages ≤ 4096 }
     ensures says { (m : Memory) → says m result ≡ sbi.console_call layout.pages m arch.now function }
-    ensures sound { IsSound layout result }
+    ensures sound { IsSoundCall layout result }
 {
     match function {
         0 => {
@@ -262,7 +262,7 @@ fn console_call(layout: Layout, arch: &Arch, function: u64) -> Call
 /// A legacy call, below `BASE`, keeps a1.
 fn no_call(extension: u64) -> Call
     ensures says { (m : Memory) → says m result ≡ sbi.no_call extension }
-    ensures sound { (l : TheLayout) → IsSound l result }
+    ensures sound { (l : TheLayout) → IsSoundCall l result }
 {
     if extension < BASE {
         Call::GivesOne {
@@ -274,13 +274,13 @@ fn no_call(extension: u64) -> Call
 }
 
 /// The call that a hart's registers name: a7 its extension, a6 its function, a0 to a5 its arguments.
-#[tactic(auto, unfolding(crate::specs::Sbi::sbi_of))]
+#[tactic(auto, unfolding(machine_model::specs::Sbi::sbi_of))]
 pub(crate) fn call_of(layout: Layout, slots: &[HartSlot], arch: &Arch) -> Call
     requires there { length slots.now ≡ layout.harts }
     requires harts { layout.harts ≤ 8 }
     requires pages { layout.pages ≤ 4096 }
-    ensures says { (m now : Memory) (room : ℕ) → called now room (says m result) ≡ called now room (sbi.sbi_of layout (modes_of slots.now) m arch.now) }
-    ensures sound { IsSound layout result }
+    ensures says { (m now : Memory) (room : ℕ) → call_outcome now room (says m result) ≡ call_outcome now room (sbi.sbi_of layout (modes_of slots.now) m arch.now) }
+    ensures sound { IsSoundCall layout result }
 {
     let extension = arg(arch, 7);
     let function = arg(arch, 6);

@@ -16,7 +16,7 @@ const FIRST: u32 = 0x73;
 
 /// A word and its instruction.
 #[derive(Clone, Copy)]
-pub(crate) struct Entry {
+pub(crate) struct DecodedWord {
     pub word: u32,
     pub instr: Instr,
 }
@@ -24,35 +24,35 @@ pub(crate) struct Entry {
 /// The words that were decoded last.
 #[derive(Drop)]
 pub(crate) struct Decoder {
-    entries: Vec<Entry>,
+    entries: Vec<DecodedWord>,
 }
 
 impl Model for Decoder {
     ghost use Rattle.std.specs.Prelude.{List};
-    ghost use Rattle.ref_machine.specs.Decoded.{view_of, IsCache};
-    ghost use Rattle.ref_machine.specs.declared.decoder.Entry.{Entry as TheEntry};
+    ghost use Rattle.ref_machine.specs.Decoded.{words_view, IsCache};
+    ghost use Rattle.ref_machine.specs.declared.decoder.DecodedWord.{DecodedWord as TheWord};
 
-    ghost Value = { List TheEntry };
+    ghost Value = { List TheWord };
 
-    ghost view = { view_of };
+    ghost view = { words_view };
 
     ghost invariant = { IsCache };
 }
 
-fn first_entry() -> Entry
-    ensures { decoded.IsEntry result }
+fn first_entry() -> DecodedWord
+    ensures { decoded.IsDecodedWord result }
 {
     let instr = match decode(FIRST) {
         Some(instr) => instr,
         None => Instr::Ecall,
     };
-    Entry { word: FIRST, instr }
+    DecodedWord { word: FIRST, instr }
 }
 
 #[tactic(auto, using(crate::proofs::Decoding::entries_first))]
-fn first_entries(alloc: Global) -> Result<Vec<Entry>, NoMemory>
+fn first_entries(alloc: Global) -> Result<Vec<DecodedWord>, NoMemory>
     ensures len { IfOk result (λ entries. length entries.items ≡ 1024) }
-    ensures all { IfOk result (λ entries. decoded.AreEntries entries.items) }
+    ensures all { IfOk result (λ entries. decoded.AreDecodedWords entries.items) }
 {
     let entry = first_entry();
     let Ok(mut entries) = Vec::with_capacity(alloc, ENTRIES) else {
@@ -66,15 +66,15 @@ fn first_entries(alloc: Global) -> Result<Vec<Entry>, NoMemory>
 
 /// Decodes a word anew, and keeps it.
 #[inline(never)]
-fn decode_anew(entries: &mut [Entry], index: usize, word: u32) -> Option<Instr>
+fn decode_anew(entries: &mut [DecodedWord], index: usize, word: u32) -> Option<Instr>
     requires there { index < length entries.old }
-    requires all { decoded.AreEntries entries.old }
+    requires all { decoded.AreDecodedWords entries.old }
     ensures found { decoded.DecodesOnly word result }
-    ensures all { decoded.AreEntries entries.new }
+    ensures all { decoded.AreDecodedWords entries.new }
     ensures len { length entries.new ≡ length entries.old }
 {
     let instr = decode(word)?;
-    entries[index] = Entry { word, instr };
+    entries[index] = DecodedWord { word, instr };
     Some(instr)
 }
 

@@ -1,17 +1,10 @@
 // A hart as the machine keeps it between two turns.
 ghost use Rattle.std.specs.Prelude.{◌≡◌, ◌%◌};
-ghost use Rattle.ref_machine.specs.State.{reset};
-ghost use Rattle.ref_machine.specs.Slots.{new_slot, begun};
+ghost use Rattle.machine_model.specs.State.{reset};
+ghost use Rattle.ref_machine.specs.Slots.{new_slot, slot_begun};
 
+use machine_model::Mode;
 use rv64_exec::Arch;
-
-/// Whether a hart runs, is stopped, or was started and has not begun (RISC-V SBI, "Hart State Management Extension").
-#[derive(Clone, Copy, Debug, PartialEq, Eq)]
-pub enum Mode {
-    Started,
-    Halted,
-    Pending,
-}
 
 /// What the machine keeps of a hart: its registers, its mode, the address and the opaque value of its last accepted
 /// start, and how many instructions it has retired or trapped on.
@@ -63,7 +56,7 @@ impl HartSlot {
     /// Begins at the address of its last start, with its number in a0 and the opaque value in a1.
     pub(crate) fn begin(&mut self, hart: u8)
         requires { self.old.start % 4 ≡ 0 }
-        ensures { self.new ≡ begun hart self.old }
+        ensures { self.new ≡ slot_begun hart self.old }
     {
         self.arch = reset(self.start);
         self.arch.x[10] = u64::from(hart);

@@ -1,19 +1,20 @@
 // The reference machine on one thread: each turn is one turn of the plain run.
-ghost use Rattle.std.specs.Prelude.{◌≡◌, ◌<◌, ◌%◌, length, IsNone, IfOk};
+ghost use Rattle.std.specs.Prelude.{◌≡◌, ◌<◌, ◌%◌, length, IsNone, IsSome, IfOk};
 ghost use Rattle.elf_load.specs.ImageOf.{IsImageOf};
 ghost use Rattle.step_laws.specs.Layout.{IsInLimits};
-ghost use Rattle.ref_machine.specs.State.{initial};
+ghost use Rattle.machine_model.specs.State.{initial};
 ghost use Rattle.ref_machine.specs.PlainState as plain;
 ghost use Rattle.ref_machine.specs.OneTurn as one;
-ghost use Rattle.ref_machine.specs.Shows.{Shows, Turned, setup_of};
+ghost use Rattle.ref_machine.specs.Shows.{Shows, Turned};
+ghost use Rattle.machine_model.specs.Image.{setup_of};
 
 use crate::calling::take_call;
 use crate::decoder::Decoder;
-use crate::hart::{HartSlot, Mode};
-use crate::reason::Reason;
+use crate::hart::HartSlot;
 use crate::shared::Shared;
 use crate::step::step;
 use elf_load::Image;
+use machine_model::{Mode, Reason};
 use rv64_exec::Arch;
 use std::alloc::Global;
 use std::marker::Model;
@@ -29,11 +30,11 @@ pub struct PlainMachine {
 }
 
 impl Model for PlainMachine {
-    ghost use Rattle.ref_machine.specs.PlainState.{PlainState, view_of, IsKept};
+    ghost use Rattle.ref_machine.specs.PlainState.{PlainState, state_view, IsKept};
 
     ghost Value = { PlainState };
 
-    ghost view = { view_of };
+    ghost view = { state_view };
 
     ghost invariant = { IsKept };
 }
@@ -126,6 +127,7 @@ impl PlainMachine {
         ensures turned { Turned hart self.old self.new }
         ensures reason { result ≡ self.new.shared.reason }
         ensures layout { self.new.shared.layout ≡ self.old.shared.layout }
+        ensures over { IsSome self.old.shared.reason → self.new ≡ self.old }
     {
         if let Some(reason) = self.reason() {
             return Some(reason);

@@ -1,30 +1,31 @@
 // What the machine does for a need that memory or a device answers.
 ghost use Rattle.std.specs.Prelude.{◌≡◌, ◌<◌, ◌≤◌, ◌%◌, ◌∷◌, [], length, IsTrue, IfSome};
-ghost use Rattle.rv64_exec.specs.Computed as exec;
+ghost use Rattle.rv64_exec.specs.Widths.{is_width};
 ghost use Rattle.rv64_exec.specs.declared.needs.Answer.{Answer as TheAnswer};
 ghost use Rattle.rv64_priv.specs.declared.state.Kind.{Kind as TheKind};
 ghost use Rattle.rv64_priv.specs.Bits.{is_set};
 ghost use Rattle.ref_machine.specs.SharedState.{ram_memory};
 ghost use Rattle.ref_machine.specs.OneTurn as one;
-ghost use Rattle.ref_machine.specs.Perform as perform;
-ghost use Rattle.ref_machine.specs.Device as device;
+ghost use Rattle.machine_model.specs.Perform as perform;
+ghost use Rattle.machine_model.specs.Device as device;
 ghost use Rattle.ref_machine.specs.Translation.{reached_as, IsInside};
 ghost use Rattle.ref_machine.specs.Given.{printed_answer, load_answer, store_answer, store_reason};
 
-use crate::bytes::{extended, over, part, replace, replace_over};
-use crate::device::{DeviceStore, device_number, device_stored};
-use crate::reason::Reason;
 use crate::shared::{CONSOLE_BYTES, Shared};
-use crate::translation::{Fault, Reach, is_untranslated, reach_of};
+use crate::translation::{Fault, Reach, reach_of};
+use machine_model::{
+    DeviceStore, Reason, device_stored, device_value, extended, number_in, number_over, replace_in,
+    replace_over,
+};
 use rv64_exec::{Arch, IpiOp, Kind};
-use rv64_priv::{access_fault, is_set};
+use rv64_priv::{access_fault, is_set, is_untranslated};
 use step_laws::RAM_BASE;
 
 impl Shared {
     /// Where the bytes of an access lie.
     #[inline(always)]
     fn reach(&self, arch: &Arch, kind: Kind, va: u64, width: u8) -> Reach
-        requires { IsTrue (exec.is_width width) }
+        requires { IsTrue (is_width width) }
         ensures reach { reached_as width result ≡ one.reach_of arch.now self.now kind va width }
         ensures inside { IsInside (length self.now.ram) width result }
     {
@@ -68,11 +69,11 @@ impl Shared {
     /// The value of a load in a register, or the load's fault.
     #[inline(always)]
     pub(crate) fn load(&self, arch: &Arch, va: u64, width: u8, signed: bool) -> Result<u64, Fault>
-        requires { IsTrue (exec.is_width width) }
-        ensures { one.effect_of self.now (perform.loaded (ram_memory self.now.ram) va width signed (one.reach_of arch.now self.now TheKind.Load va width)) ≡ one.answers self.now (load_answer result) }
+        requires { IsTrue (is_width width) }
+        ensures { one.effect_on self.now (perform.load_outcome (ram_memory self.now.ram) va width signed (one.reach_of arch.now self.now TheKind.Load va width)) ≡ one.answers self.now (load_answer result) }
     {
         if let Some(index) = self.bare_word(arch, va, width) {
-            let number = part(self.ram[index], va % 8, width);
+            let number = number_in(self.ram[index], va % 8, width);
             return Ok(extended(signed, width, number));
         }
         self.load_anywhere(arch, va, width, signed)
@@ -80,17 +81,17 @@ impl Shared {
 
     #[inline(never)]
     fn load_anywhere(&self, arch: &Arch, va: u64, width: u8, signed: bool) -> Result<u64, Fault>
-        requires { IsTrue (exec.is_width width) }
-        ensures { one.effect_of self.now (perform.loaded (ram_memory self.now.ram) va width signed (one.reach_of arch.now self.now TheKind.Load va width)) ≡ one.answers self.now (load_answer result) }
+        requires { IsTrue (is_width width) }
+        ensures { one.effect_on self.now (perform.load_outcome (ram_memory self.now.ram) va width signed (one.reach_of arch.now self.now TheKind.Load va width)) ≡ one.answers self.now (load_answer result) }
     {
         let number = match self.reach(arch, Kind::Load, va, width) {
-            Reach::Word { index, offset } => part(self.ram[index], offset, width),
+            Reach::Word { index, offset } => number_in(self.ram[index], offset, width),
             Reach::Words {
                 first,
                 second,
                 offset,
-            } => over(self.ram[first], self.ram[second], offset, width),
-            Reach::Device(pa) => match device_number(pa, width) {
+            } => number_over(self.ram[first], self.ram[second], offset, width),
+            Reach::Device(pa) => match device_value(pa, width) {
                 Some(number) => number,
                 None => {
                     return Err(Fault {
@@ -113,12 +114,12 @@ impl Shared {
         width: u8,
         value: u64,
     ) -> Result<Option<Reason>, Fault>
-        requires { IsTrue (exec.is_width width) }
-        ensures stored { one.effect_of self.old (perform.stored (ram_memory self.old.ram) (one.room self.old) va width value (one.reach_of arch.now self.old TheKind.Store va width)) ≡ one.done_with self.new (store_answer result) (store_reason result) }
+        requires { IsTrue (is_width width) }
+        ensures stored { one.effect_on self.old (perform.store_outcome (ram_memory self.old.ram) (one.room self.old) va width value (one.reach_of arch.now self.old TheKind.Store va width)) ≡ one.done_with self.new (store_answer result) (store_reason result) }
         ensures rest { self.new ≡ record self.old { ram = self.new.ram; console = self.new.console } }
     {
         if let Some(index) = self.bare_word(arch, va, width) {
-            self.ram[index] = replace(self.ram[index], va % 8, width, value);
+            self.ram[index] = replace_in(self.ram[index], va % 8, width, value);
             return Ok(None);
         }
         self.store_anywhere(arch, va, width, value)
@@ -132,13 +133,13 @@ impl Shared {
         width: u8,
         value: u64,
     ) -> Result<Option<Reason>, Fault>
-        requires { IsTrue (exec.is_width width) }
-        ensures stored { one.effect_of self.old (perform.stored (ram_memory self.old.ram) (one.room self.old) va width value (one.reach_of arch.now self.old TheKind.Store va width)) ≡ one.done_with self.new (store_answer result) (store_reason result) }
+        requires { IsTrue (is_width width) }
+        ensures stored { one.effect_on self.old (perform.store_outcome (ram_memory self.old.ram) (one.room self.old) va width value (one.reach_of arch.now self.old TheKind.Store va width)) ≡ one.done_with self.new (store_answer result) (store_reason result) }
         ensures rest { self.new ≡ record self.old { ram = self.new.ram; console = self.new.console } }
     {
         match self.reach(arch, Kind::Store, va, width) {
             Reach::Word { index, offset } => {
-                self.ram[index] = replace(self.ram[index], offset, width, value);
+                self.ram[index] = replace_in(self.ram[index], offset, width, value);
                 Ok(None)
             }
             Reach::Words {
@@ -170,11 +171,11 @@ impl Shared {
         width: u8,
         value: u64,
     ) -> Result<Option<Reason>, Fault>
-        ensures stored { one.effect_of self.old (perform.device_done (one.room self.old) va (device.device_stored pa width value)) ≡ one.done_with self.new (store_answer result) (store_reason result) }
+        ensures stored { one.effect_on self.old (perform.device_store_outcome (one.room self.old) va (device.device_stored pa width value)) ≡ one.done_with self.new (store_answer result) (store_reason result) }
         ensures rest { self.new ≡ record self.old { ram = self.new.ram; console = self.new.console } }
     {
         match device_stored(pa, width, value) {
-            Some(DeviceStore::Prints(byte)) => Ok(self.print(byte)),
+            Some(DeviceStore::PutsByte(byte)) => Ok(self.print(byte)),
             Some(DeviceStore::Ends(reason)) => Ok(Some(reason)),
             Some(DeviceStore::Ignored) => Ok(None),
             None => Err(Fault {
@@ -186,8 +187,8 @@ impl Shared {
 
     /// Appends a byte to the console; where that is full, this is the reason.
     pub(crate) fn print(&mut self, byte: u8) -> Option<Reason>
-        ensures printed { one.effect_of self.old (perform.prints (one.room self.old) (byte ∷ []) TheAnswer.Nothing) ≡ one.done_with self.new TheAnswer.Nothing result }
-        ensures called { (answer : TheAnswer) → one.effect_called self.old (perform.prints (one.room self.old) (byte ∷ []) answer) ≡ one.done_with self.new (printed_answer answer result) result }
+        ensures printed { one.effect_on self.old (perform.print_outcome (one.room self.old) (byte ∷ []) TheAnswer.Nothing) ≡ one.done_with self.new TheAnswer.Nothing result }
+        ensures called { (answer : TheAnswer) → one.effect_called self.old (perform.print_outcome (one.room self.old) (byte ∷ []) answer) ≡ one.done_with self.new (printed_answer answer result) result }
         ensures rest { self.new ≡ record self.old { console = self.new.console } }
     {
         if self.console.len() >= CONSOLE_BYTES {

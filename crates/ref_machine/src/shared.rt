@@ -5,15 +5,15 @@ ghost use Rattle.step_laws.specs.Layout.{IsInLimits};
 ghost use Rattle.ref_machine.specs.SharedState.{IsFirst};
 
 use crate::loader::load;
-use crate::reason::Reason;
 use elf_load::Image;
+use machine_model::Reason;
 use std::alloc::Global;
 use std::marker::Model;
-use step_laws::Layout;
+use step_laws::{CONSOLE_PLACES, Layout};
 use vm_io::NoMemory;
 
 /// How many bytes the console takes.
-pub(crate) const CONSOLE_BYTES: usize = 1_048_576;
+pub(crate) const CONSOLE_BYTES: usize = CONSOLE_PLACES as usize;
 
 /// RAM by words, the harts' bits of software interrupts, the console's bytes, the limit of instructions, and the
 /// first reason to end.

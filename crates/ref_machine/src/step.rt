@@ -1,12 +1,14 @@
 // A turn of a running hart by itself: all of it but the SBI's calls, which may touch other harts.
 ghost use Rattle.std.specs.Prelude.{◌≡◌, ◌≢◌, ◌<◌, ◌/◌, ◌%◌, ◌^◌, ◌+◌, IsNone, IfSome, None, false};
 ghost use Rattle.rv64_decode.specs.Encoding.{IsInRange};
-ghost use Rattle.rv64_exec.specs.Computed as exec;
+ghost use Rattle.rv64_exec.specs.Alone.{is_alone};
+ghost use Rattle.rv64_exec.specs.Widths.{IsWellFormedNeed};
 ghost use Rattle.rv64_exec.specs.Finish.{Answers};
 ghost use Rattle.rv64_exec.specs.Plan.{need_of};
 ghost use Rattle.rv64_exec.specs.declared.needs.Need.{Need as TheNeed};
 ghost use Rattle.rv64_priv.specs.declared.state.Kind.{Kind as TheKind};
-ghost use Rattle.ref_machine.specs.Access as access;
+ghost use Rattle.machine_model.specs.Access as access;
+ghost use Rattle.machine_model.specs.Lawful.{is_pending};
 ghost use Rattle.ref_machine.specs.OneTurn as one;
 ghost use Rattle.ref_machine.specs.Given as given;
 ghost use Rattle.ref_machine.specs.Given.{done_of, Is, IsCall, IsSlotBehind};
@@ -15,9 +17,9 @@ ghost use Rattle.ref_machine.specs.Translation.{IsWord};
 use crate::atomics::Reserved;
 use crate::decoder::Decoder;
 use crate::hart::HartSlot;
-use crate::reason::Reason;
 use crate::shared::Shared;
 use crate::translation::{Fault, fetch_place};
+use machine_model::Reason;
 use rv64_decode::Instr;
 use rv64_exec::{Answer, Arch, Need, compute, finish_served, plan};
 use rv64_priv::{takes_interrupts, trap};
@@ -46,7 +48,7 @@ fn half_at(word: u64, pa: u64) -> u32
 #[inline]
 fn is_interrupted(hart: u8, arch: &Arch, shared: &Shared) -> bool
     requires { hart < 8 }
-    ensures { result ≡ one.is_pending hart arch.now shared.now }
+    ensures { result ≡ is_pending arch.now hart shared.now.ipi }
 {
     shared.is_pending(hart) && takes_interrupts(arch)
 }
@@ -111,7 +113,7 @@ fn execute(
     requires going { IsNone shared.old.reason }
     requires hart { hart < 8 }
     requires below { slot.old.count < shared.old.limit }
-    ensures done { one.IsDone hart slot.old shared.old word (done_of result slot.new shared.new) }
+    ensures done { one.IsWordDone hart slot.old shared.old word (done_of result slot.new shared.new) }
     ensures call { IfSome result (λ i. IsCall slot.old.arch i × (slot.new ≡ slot.old) × (shared.new ≡ shared.old)) }
     ensures kept { IsSlotBehind slot.old shared.old slot.new shared.new }
 {
@@ -204,8 +206,8 @@ fn serve(hart: u8, slot: &mut HartSlot, shared: &mut Shared, instr: &Instr, need
     requires hart { hart < 8 }
     requires below { slot.old.count < shared.old.limit }
     requires range { IsInRange instr.now }
-    requires served { exec.is_alone slot.old.arch instr.now ≡ false }
-    requires form { exec.IsWellFormedNeed need }
+    requires served { is_alone slot.old.arch instr.now ≡ false }
+    requires form { IsWellFormedNeed need }
     requires need { need ≡ need_of slot.old.arch instr.now }
     requires other { need ≢ TheNeed.Sbi }
     ensures done { Is slot.new shared.new (one.retired hart slot.old instr.now (one.effect_of_need hart slot.old.arch shared.old need)) }

@@ -1,18 +1,18 @@
 // Fresh translations: each walk reads the page tables in RAM anew (Privileged Architecture, "Virtual Address
 // Translation Process").
 ghost use Rattle.std.specs.Prelude.{◌≡◌, ◌<◌, ◌≤◌, ◌+◌, ◌*◌, ◌^◌, length, false, IsTrue, IfOk};
-ghost use Rattle.rv64_exec.specs.Computed.{is_width};
+ghost use Rattle.rv64_exec.specs.Widths.{is_width};
 ghost use Rattle.rv64_priv.specs.Csr.{regime};
 ghost use Rattle.rv64_priv.specs.Pte.{is_bare};
 ghost use Rattle.rv64_priv.specs.Walk as walk;
 ghost use Rattle.rv64_priv.specs.declared.state.Kind.{Kind as TheKind};
-ghost use Rattle.ref_machine.specs.Access as access;
+ghost use Rattle.machine_model.specs.Access as access;
 ghost use Rattle.ref_machine.specs.SharedState.{ram_reads};
-ghost use Rattle.ref_machine.specs.Translation.{end_of, spot, fetch_spot, reached_as, IsInside, IsInRam, IsSpotIn, IsSound, IsSmall};
+ghost use Rattle.ref_machine.specs.Translation.{end_of, spot, fetch_spot, reached_as, IsInside, IsInRam, IsSpotIn, IsSoundEnd, IsSmall};
 
 use rv64_priv::{
-    Arch, Entry, Kind, Regime, access_fault, entry_of, entry_place, is_canonical, leaf_end,
-    page_fault, regime_of,
+    Arch, Kind, PteKind, Regime, access_fault, is_canonical, is_untranslated, leaf_end, page_fault,
+    pte_address, pte_kind, regime_of,
 };
 use step_laws::RAM_BASE;
 
@@ -85,7 +85,7 @@ fn is_reachable(pages: u32, kind: Kind, pa: u64) -> bool
 /// The end at a leaf: its page has to be there.
 #[inline]
 fn reached(pages: u32, kind: Kind, pte: u64, page: u64, level: u8) -> WalkEnd
-    ensures { end_of result ≡ walk.reached pages kind pte page level }
+    ensures { end_of result ≡ walk.reachable_leaf pages kind pte page level }
 {
     if is_reachable(pages, kind, page) {
         WalkEnd::Leaf { pte, page, level }
@@ -116,15 +116,15 @@ fn walk_from(ram: &[u64], pages: u32, regime: &Regime, kind: Kind, va: u64, root
     let mut table = root;
     for passed in 0..3 {
         let level = 2 - passed;
-        let place = entry_place(table, va, level);
-        if !is_ram(pages, place) {
+        let address = pte_address(table, va, level);
+        if !is_ram(pages, address) {
             return WalkEnd::AccessFault;
         }
-        let pte = ram[((place - RAM_BASE) / 8) as usize];
-        match entry_of(pte) {
-            Entry::Malformed => return WalkEnd::PageFault,
-            Entry::Pointer { table: below } => table = below,
-            Entry::Leaf => return at_leaf(pages, regime, kind, va, level, pte),
+        let pte = ram[((address - RAM_BASE) / 8) as usize];
+        match pte_kind(pte) {
+            PteKind::Malformed => return WalkEnd::PageFault,
+            PteKind::Pointer { table: below } => table = below,
+            PteKind::Leaf => return at_leaf(pages, regime, kind, va, level, pte),
         }
     }
     WalkEnd::PageFault
@@ -138,7 +138,7 @@ fn walk_tables(ram: &[u64], pages: u32, regime: &Regime, kind: Kind, va: u64) ->
     requires pages { pages ≤ 4096 }
     requires mode { is_bare regime.now ≡ false }
     ensures end { end_of result ≡ walk.walk_of pages regime.now kind (ram_reads ram.now) va }
-    ensures sound { IsSound pages kind (end_of result) }
+    ensures sound { IsSoundEnd pages kind (end_of result) }
     ensures small { IsSmall (end_of result) }
 {
     if !is_canonical(va) {
@@ -148,14 +148,6 @@ fn walk_tables(ram: &[u64], pages: u32, regime: &Regime, kind: Kind, va: u64) ->
     walk_from(ram, pages, regime, kind, va, root)
 }
 
-/// Addresses are physical, whatever else the regime is.
-#[inline]
-pub(crate) fn is_untranslated(arch: &Arch) -> bool
-    ensures { result ≡ is_bare (regime arch.now) }
-{
-    arch.satp >> 60 == 0
-}
-
 /// The walk of an address.
 #[tactic(auto, unfolding(rv64_priv::specs::Walk::walk_of))]
 #[inline(always)]
@@ -163,7 +155,7 @@ fn walk(ram: &[u64], pages: u32, arch: &Arch, kind: Kind, va: u64) -> WalkEnd
     requires size { length ram.now ≡ 512 * pages }
     requires pages { pages ≤ 4096 }
     ensures end { end_of result ≡ walk.walk_of pages (regime arch.now) kind (ram_reads ram.now) va }
-    ensures sound { IsSound pages kind (end_of result) }
+    ensures sound { IsSoundEnd pages kind (end_of result) }
     ensures small { IsSmall (end_of result) }
 {
     if is_untranslated(arch) {

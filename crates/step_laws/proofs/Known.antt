@@ -1,20 +1,19 @@
 -- What may stand in a word: what is stored there, and of a hart's TLB what the hart or the loader stored last.
-use Rattle.std.proofs.Common.{◌≡◌, ◌≢◌, ℕ, zero, suc, ◌<◌, ◌≤◌, Bool, true, false, cond, true≢false, List, [], ◌∷◌, refl, sym, ap, subst, ◌∙◌, inl, inr, arith, ⊎_elim}
+use Rattle.std.proofs.Common.{◌≡◌, ◌≢◌, ℕ, zero, suc, ◌<◌, Bool, true, false, cond, List, [], ◌∷◌, refl, sym, ap, subst, ◌∙◌, inl, inr, arith, ⊎_elim}
 use Rattle.std.specs.Prelude.{◌==◌, ◌&&◌, nat_lt, if◌then◌else◌}
 use Rattle.std.proofs.lemmas.Bool.{cases_Bool, and_parts, and_from, lt-ltb, ltb-true}
 use prog.Atomic.{either}
 use Rattle.step_laws.specs.declared.words.Layout.{Layout}
 use Rattle.step_laws.specs.declared.steps.WordOp.{WordOp}
-use Rattle.step_laws.specs.declared.steps.WordOp.TheVariants.{Load, Store, Exchange}
 use Rattle.step_laws.specs.declared.steps.Step.{Step}
-use Rattle.step_laws.specs.Map.{Word, Stop, Hsm, Size, Start, Place, Tlb, name_of, same, monitor, loader}
+use Rattle.step_laws.specs.Map.{Word, Stop, Hsm, Size, Start, Place, Tlb, name_of, same, loader}
 use Rattle.step_laws.specs.Steps.{own_steps, new_of}
 use Rattle.step_laws.specs.Fields.{IsReason}
-use Rattle.step_laws.specs.Record.{has_split, stored, stored_next, boot_value, is_first_slot, table_word, table_next}
+use Rattle.step_laws.specs.Record.{stored, stored_next, boot_value, is_first_slot, table_word, table_next}
 use Rattle.step_laws.specs.Ranges.{MayStand, IsOwnTable, IsLastStored, but_for_not_dirty}
-use Rattle.step_laws.specs.Discipline.{IsActor, IsBooted, IsPermitted, IsDisciplined, LoaderMay, ActorMay, by_loader, by_actor, boot_live, boot_state, boot_size, boot_slot, boot_ram, load_first, load_more, load_stop, set_stop, load_slot, load_size}
-use Rattle.step_laws.proofs.Named.{by_test, same_true}
-use Rattle.step_laws.proofs.Loading.{no_actor, booted}
+use Rattle.step_laws.specs.Discipline.{IsActor, IsBooted, IsPermitted, LoaderMay, ActorMay, by_loader, by_actor, boot_live, boot_state, boot_size, boot_slot, boot_ram, load_first, load_more, load_stop, set_stop, load_slot, load_size}
+use Rattle.step_laws.proofs.Named.{same_true}
+use Rattle.step_laws.proofs.Loading.{no_actor}
 use Rattle.step_laws.proofs.Woven.{Woven, held, by_actor as by_actors}
 
 -- whether a word is another, by cases

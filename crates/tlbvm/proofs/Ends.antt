@@ -4,13 +4,13 @@ use Rattle.std.specs.Prelude.{◌⊎◌, IfSome, Result, Ok, Err}
 use Rattle.elf_load.specs.declared.image.BadImage.{BadImage}
 use Rattle.elf_load.specs.Loaded.{Loaded}
 use Rattle.elf_load.specs.ImageOf.{image_of}
-use Rattle.ref_machine.specs.declared.reason.Reason.{Reason}
-use Rattle.ref_machine.specs.Event.{Event}
-use Rattle.ref_machine.specs.State.{Setup, State, Hart}
-use Rattle.ref_machine.specs.Plain.{IsPlainRun, none}
+use Rattle.machine_model.specs.declared.reason.Reason.{Reason}
+use Rattle.machine_model.specs.Event.{Event}
+use Rattle.machine_model.specs.State.{Setup, State, Hart}
+use Rattle.machine_model.specs.Plain.{IsPlainRun, none}
 use Rattle.ref_machine.specs.PlainState.{PlainState}
 use Rattle.ref_machine.specs.Ran.{GoesOn, Ran}
-use Rattle.ref_machine.proofs.Grows.{plain_runs}
+use Rattle.machine_model.proofs.Grows.{plain_runs, plain_settled}
 use Rattle.ref_machine.proofs.Runs.{first_only}
 use Rattle.tlbvm.specs.declared.start.Refusal.{Refusal}
 use Rattle.tlbvm.specs.declared.status.Status.{Status}
@@ -18,7 +18,7 @@ use Rattle.tlbvm.specs.Items.{items_of}
 use Rattle.tlbvm.specs.Turns.{turns_of}
 use Rattle.tlbvm.specs.declared.items.Item.{Item}
 use Rattle.tlbvm.specs.Options.{Line}
-use Rattle.ref_machine.specs.Run.{state_of}
+use Rattle.machine_model.specs.Run.{state_of}
 use Rattle.ref_machine.specs.Shows.{resting}
 use Rattle.tlbvm.specs.Report.{report_from, report_of}
 use Rattle.tlbvm.specs.Status.{status_for}
@@ -57,6 +57,7 @@ run_ended line files p q items s ran =
         is_order = s.is_order;
         run = run;
         is_run = plain_runs u turns run plain;
+        is_settled = plain_settled u turns run plain;
         is_plain = plain;
         is_only = λ other k. g.only (first_only u) other (subst (λ order. IsPlainRun u order other) (sym (append_nil turns)) k);
         is_end = refl;

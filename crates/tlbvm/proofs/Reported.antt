@@ -4,9 +4,9 @@ use Rattle.std.specs.Prelude.{codes, slice_index}
 use Rattle.std.proofs.lemmas.List.{append_assoc, length-map}
 use Rattle.std.proofs.Math.ListN.{get_or-map}
 use Rattle.std.proofs.Math.Seq.{take-length}
-use Rattle.ref_machine.specs.declared.hart.Mode.TheVariants.{Halted}
+use Rattle.machine_model.specs.declared.mode.Mode.TheVariants.{Halted}
 use Rattle.ref_machine.specs.declared.hart.HartSlot.{HartSlot}
-use Rattle.ref_machine.specs.State.{Hart, nth}
+use Rattle.machine_model.specs.State.{Hart, nth}
 use Rattle.ref_machine.specs.Slots.{new_slot, slot_at}
 use Rattle.ref_machine.specs.Shows.{resting}
 use Rattle.tlbvm.specs.Report.{hex, registers, hart_line, hart_lines}

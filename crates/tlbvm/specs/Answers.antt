@@ -4,7 +4,7 @@ use Rattle.vm_io.specs.Faults.{Rose}
 use Rattle.elf_load.specs.Loaded.{Loaded}
 use Rattle.elf_load.specs.declared.image.BadImage.{BadImage}
 use Rattle.elf_load.specs.ImageOf.{image_of}
-use Rattle.ref_machine.specs.declared.reason.Reason.{Reason}
+use Rattle.machine_model.specs.declared.reason.Reason.{Reason}
 use Rattle.tlbvm.specs.declared.start.Refusal.{Refusal}
 use Rattle.tlbvm.specs.declared.status.Status.{Status}
 use Rattle.tlbvm.specs.declared.items.Item.{Item}

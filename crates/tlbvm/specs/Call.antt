@@ -6,14 +6,15 @@ use Rattle.elf_load.specs.Loaded.{Loaded}
 use Rattle.elf_load.specs.declared.image.BadImage.{BadImage}
 use Rattle.elf_load.specs.ImageOf.{image_of}
 use Rattle.step_laws.specs.declared.words.Layout.{Layout}
-use Rattle.ref_machine.specs.declared.reason.Reason.{Reason}
-use Rattle.ref_machine.specs.Event.{Event}
-use Rattle.ref_machine.specs.State.{Setup, State, initial}
-use Rattle.ref_machine.specs.Run.{state_of}
-use Rattle.ref_machine.specs.Lawful.{IsRun}
-use Rattle.ref_machine.specs.Plain.{IsPlainRun}
+use Rattle.machine_model.specs.declared.reason.Reason.{Reason}
+use Rattle.machine_model.specs.Event.{Event}
+use Rattle.machine_model.specs.State.{Setup, State, initial}
+use Rattle.machine_model.specs.Run.{state_of}
+use Rattle.machine_model.specs.Lawful.{IsRun, IsSettled}
+use Rattle.machine_model.specs.Plain.{IsPlainRun}
 use Rattle.ref_machine.specs.PlainState.{PlainState}
-use Rattle.ref_machine.specs.Shows.{Shows, setup_of}
+use Rattle.ref_machine.specs.Shows.{Shows}
+use Rattle.machine_model.specs.Image.{setup_of}
 use Rattle.tlbvm.specs.declared.start.Refusal.{Refusal}
 use Rattle.tlbvm.specs.declared.items.Item.{Item}
 use Rattle.tlbvm.specs.Options.{Line}
@@ -98,7 +99,8 @@ pub record IsStarted (line : Line) (files : Files) (machine : PlainState) (items
   pub is_order : items_of text line.harts ≡ Ok items
   pub first : Shows (plain_setup line file image) machine (initial (plain_setup line file image))
 
--- One run of the reference machine from the image of the ELF file, which leaves this state: the one plain run of the order.
+-- One run of the reference machine from the image of the ELF file, which leaves this state: the one plain run of the order. Every stop
+-- that is due in it has come.
 pub record OneRun (line : Line) (files : Files) (end : State) : Type 0 where
   pub file : List ℕ
   pub text : List ℕ
@@ -110,6 +112,7 @@ pub record OneRun (line : Line) (files : Files) (end : State) : Type 0 where
   pub is_order : items_of text line.harts ≡ Ok items
   pub run : List Event
   pub is_run : IsRun (plain_setup line file image) run
+  pub is_settled : IsSettled (plain_setup line file image) run
   pub is_plain : IsPlainRun (plain_setup line file image) (turns_of line.harts items) run
   pub is_only : (other : List Event) → IsPlainRun (plain_setup line file image) (turns_of line.harts items) other → other ≡ run
   pub is_end : state_of (plain_setup line file image) run ≡ end

@@ -1,8 +1,8 @@
 -- The report of a machine that has ended.
 use Rattle.std.specs.Prelude.{ℕ, zero, suc, ◌+◌, ◌/◌, ◌%◌, Bool, nat_lt, if◌then◌else◌, List, [], ◌∷◌, ◌++◌, drop, Option, Some, None, codes, decimal}
 use Rattle.rv64_priv.specs.State.{Arch}
-use Rattle.ref_machine.specs.declared.reason.Reason.{Reason}
-use Rattle.ref_machine.specs.State.{State, Hart}
+use Rattle.machine_model.specs.declared.reason.Reason.{Reason}
+use Rattle.machine_model.specs.State.{State, Hart}
 
 -- how it ended, by its first reason
 abbrev pub ending_of : Option Reason → List ℕ

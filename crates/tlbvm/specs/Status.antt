@@ -1,7 +1,7 @@
 -- The exit codes and lines of the statuses, and the status of a machine that has ended.
 use Rattle.std.specs.Prelude.{ℕ, List, ◌++◌, Option, Some, None, codes, decimal}
 use Rattle.elf_load.specs.declared.image.BadImage.{BadImage}
-use Rattle.ref_machine.specs.declared.reason.Reason.{Reason}
+use Rattle.machine_model.specs.declared.reason.Reason.{Reason}
 use Rattle.tlbvm.specs.declared.status.Status.{Status}
 
 abbrev pub exit_code_of : Status → ℕ

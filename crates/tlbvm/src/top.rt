@@ -1,7 +1,7 @@
 // The top call.
 ghost use Rattle.std.specs.Prelude.{◌≡◌, ◌↔◌, ℕ, Option, None, Some, IsTrue, map, string_bytes};
 ghost use Rattle.elf_load.specs.declared.image.BadImage.{BadImage as TheBadImage};
-ghost use Rattle.ref_machine.specs.declared.reason.Reason.{Reason as TheReason};
+ghost use Rattle.machine_model.specs.declared.reason.Reason.{Reason as TheReason};
 ghost use Rattle.tlbvm.specs.Options.{line_of};
 ghost use Rattle.tlbvm.specs.Lines.{line_as, IsInLimits};
 ghost use Rattle.tlbvm.specs.Status.{status_for};

@@ -1,7 +1,7 @@
 // The range of a remote fence (RISC-V SBI, "RFENCE Extension").
 ghost use Rattle.std.specs.Prelude.{◌≡◌};
 ghost use Rattle.std.specs.Option.{is_none};
-ghost use Rattle.ref_machine.specs.Sbi.{fence_range};
+ghost use Rattle.machine_model.specs.Sbi.{fence_range};
 
 /// Whether a fence's range ends past the last address; one of size 0 or all ones never does.
 pub(crate) fn is_past_end(start: u64, size: u64) -> bool

@@ -1,7 +1,7 @@
 // The harts that a mask names (RISC-V SBI, "Hart list parameter").
 ghost use Rattle.std.specs.Prelude.{◌≡◌, ◌+◌, ◌<◌, ◌≤◌, SomeIff};
 ghost use Rattle.ref_machine.specs.Calls.{bits_if_there};
-ghost use Rattle.ref_machine.specs.Sbi.{named};
+ghost use Rattle.machine_model.specs.Sbi.{named};
 
 use rv64_priv::is_set;
 

@@ -2,7 +2,7 @@
 use Rattle.std.proofs.Common.{◌≡◌, ◌≤◌, ◌+◌, ◌++◌}
 use Rattle.std.specs.Prelude.{vec_len, vec_capacity}
 use Rattle.ref_machine.specs.SharedState.{ram_memory}
-use Rattle.ref_machine.specs.Sbi.{bytes_from}
+use Rattle.machine_model.specs.Sbi.{bytes_from}
 use Rattle.ref_machine.proofs.calling.push_bytes.Given as goal
 
 abbrev pub invariant-loop-index : goal.invariant-loop-index

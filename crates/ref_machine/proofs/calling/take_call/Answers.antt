@@ -3,12 +3,12 @@ use Rattle.std.proofs.Common.{◌≡◌, ◌<◌, ◌+◌, List, length, arith, 
 use Rattle.std.specs.Prelude.{IsNone, slice_index_or, slice_set}
 use Rattle.std.proofs.lemmas.List.{get_or_default}
 use Rattle.std.proofs.Math.Arith.{lt_of_le-ne}
-use Rattle.ref_machine.specs.declared.hart.Mode.TheVariants.{Halted}
+use Rattle.machine_model.specs.declared.mode.Mode.TheVariants.{Halted}
 use Rattle.ref_machine.specs.declared.hart.HartSlot.{HartSlot}
-use Rattle.ref_machine.specs.Slots.{new_slot, slot_at, with_start}
+use Rattle.ref_machine.specs.Slots.{new_slot, slot_at, slots_with_start}
 use Rattle.ref_machine.specs.SharedState.{Shared, shared_of}
 use Rattle.ref_machine.specs.PlainState.{AreKept}
-use Rattle.ref_machine.specs.Calls.{IsSound}
+use Rattle.ref_machine.specs.Calls.{IsSoundCall}
 use Rattle.ref_machine.specs.OneTurn.{slot_called}
 use Rattle.ref_machine.specs.Given.{starts_of}
 use Rattle.ref_machine.proofs.KeptSlots.{IsStartIn, called_kept, called_length, sound_start}
@@ -41,8 +41,8 @@ returns-clause-kept c = λ all.
     let start = starts_of c.call_of-call.result in
     let t = slot_called (slot_at ts h) c.args.instr.now c.serve-served.result.answer c.stops.result in
     let limit : c.shared-2.inside.limit ≡ b.limit = ap (λ (x : Shared). x.limit) (c.shared-2.view_is ∙ c.serve-served.ensures.rest) in
-    let begun : c.start_named.new.slots ≡ with_start (slice_set ts h t) start = c.start_named.ensures ∙ ap (λ (x : List HartSlot). with_start x start) c.finish_call.ensures in
-    let in_layout : IsStartIn b.layout.harts start = sound_start b.layout c.call_of-call.result (subst (λ (x : Shared). IsSound x.layout c.call_of-call.result) c.shared.view_is c.call_of-call.ensures.sound) in
+    let begun : c.start_named.new.slots ≡ slots_with_start (slice_set ts h t) start = c.start_named.ensures ∙ ap (λ (x : List HartSlot). slots_with_start x start) c.finish_call.ensures in
+    let in_layout : IsStartIn b.layout.harts start = sound_start b.layout c.call_of-call.result (subst (λ (x : Shared). IsSoundCall x.layout c.call_of-call.result) c.shared.view_is c.call_of-call.ensures.sound) in
     let in_slots : IsStartIn (length ts) start = subst (λ n. IsStartIn n start) (sym every) in_layout in
     subst (λ (x : List HartSlot). AreKept (shared_of (record c.shared-2.inside { reason = c.reason_behind-shared-inside.result })) x) (sym begun)
     (called_kept b (shared_of (record c.shared-2.inside { reason = c.reason_behind-shared-inside.result })) ts h c.args.instr.now c.serve-served.result.answer c.stops.result start
@@ -54,5 +54,5 @@ returns-clause-len c =
     let h = c.args.hart in
     let start = starts_of c.call_of-call.result in
     let t = slot_called (slot_at ts h) c.args.instr.now c.serve-served.result.answer c.stops.result in
-    ap (λ (x : List HartSlot). length x) (c.start_named.ensures ∙ ap (λ (x : List HartSlot). with_start x start) c.finish_call.ensures)
+    ap (λ (x : List HartSlot). length x) (c.start_named.ensures ∙ ap (λ (x : List HartSlot). slots_with_start x start) c.finish_call.ensures)
     ∙ called_length ts h t start

@@ -4,9 +4,9 @@ use Rattle.std.specs.Prelude.{if◌then◌else◌}
 use Rattle.std.proofs.lemmas.Bool.{ne_eqb, and_left}
 use Rattle.rv64_priv.specs.State.{Arch}
 use Rattle.step_laws.specs.declared.words.Layout.{Layout}
-use Rattle.ref_machine.specs.Memory.{Memory}
-use Rattle.ref_machine.specs.Perform.{called}
-use Rattle.ref_machine.specs.Sbi.{Call, Modes, arg, no_call, sbi_of}
+use Rattle.machine_model.specs.Memory.{Memory}
+use Rattle.machine_model.specs.Perform.{call_outcome}
+use Rattle.machine_model.specs.Sbi.{Call, Modes, arg, no_call, sbi_of}
 use Rattle.ref_machine.specs.Slots.{modes_of}
 use Rattle.ref_machine.proofs.calls.call_of.Goals as goal
 
@@ -50,4 +50,4 @@ pub returns-in_default-clause-says : goal.returns-in_default-clause-says
 returns-in_default-clause-says c =
     let a = c.args.arch.now in
     let none = unnamed c.args.layout (modes_of c.args.slots.now) in
-    λ m now room. ap (called now room) (c.no_call-in_default.ensures.says m ∙ ap no_call c.arg-extension.ensures ∙ sym (none m a (omega arith) (omega arith) (omega arith) (omega arith) (omega arith) (omega arith) (omega arith) (omega arith)))
+    λ m now room. ap (call_outcome now room) (c.no_call-in_default.ensures.says m ∙ ap no_call c.arg-extension.ensures ∙ sym (none m a (omega arith) (omega arith) (omega arith) (omega arith) (omega arith) (omega arith) (omega arith) (omega arith)))

@@ -2,7 +2,7 @@
 use Rattle.std.proofs.Common.{◌<◌, ◌+◌, ◌++◌, List, [], ◌∷◌, arith, ap, ◌∙◌}
 use Rattle.std.specs.Prelude.{if◌then◌else◌, vec_len, vec_capacity}
 use Rattle.ref_machine.specs.declared.hart.HartSlot.{HartSlot}
-use Rattle.ref_machine.specs.declared.hart.Mode.TheVariants.{Halted}
+use Rattle.machine_model.specs.declared.mode.Mode.TheVariants.{Halted}
 use Rattle.ref_machine.specs.Slots.{new_slot}
 use Rattle.ref_machine.proofs.First.{slots_more}
 use Rattle.ref_machine.proofs.machine.first_slots.Goals as goal

@@ -5,7 +5,7 @@ use Rattle.std.proofs.Math.ListN.{get_or}
 use Rattle.std.proofs.lemmas.Grind.{get_or_default_zero}
 use Rattle.rv64_priv.specs.State.{Arch}
 use Rattle.rv64_priv.specs.declared.state.Kind.{Kind}
-use Rattle.ref_machine.specs.Access.{spot_of}
+use Rattle.machine_model.specs.Access.{spot_of}
 use Rattle.ref_machine.specs.SharedState.{Shared}
 use Rattle.ref_machine.specs.OneTurn.{walk_end, IsBarePlace}
 use Rattle.ref_machine.specs.Translation.{IsWord}

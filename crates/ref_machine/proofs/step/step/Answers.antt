@@ -2,7 +2,7 @@
 use Rattle.std.proofs.Common.{◌≡◌, sym, ◌∙◌, subst}
 use Rattle.std.specs.Prelude.{MatchBool}
 use Rattle.rv64_priv.specs.declared.state.Kind.{Kind}
-use Rattle.ref_machine.specs.Access.{spot_of}
+use Rattle.machine_model.specs.Access.{spot_of}
 use Rattle.ref_machine.specs.OneTurn.{IsFetched, interrupted, walk_end}
 use Rattle.ref_machine.specs.Given.{done_of}
 use Rattle.ref_machine.proofs.Stepping.{fetched_word}

@@ -10,7 +10,7 @@ returns-then-not-is_ram c =
     let n = c.loop-passed.passed in
     let below = c.loop-passed-test.true in
     let same : 3 - n ≡ suc (2 - n) = omega (arith, below) in
-    sym (c.loop-passed.invariant.walk ∙ from_step c.args.pages c.args.regime.now c.args.kind c.args.ram.now c.args.va (3 - n) (2 - n) c.loop-passed.table c.entry_place-place.result false _ _ same c.entry_place-place.ensures
+    sym (c.loop-passed.invariant.walk ∙ from_step c.args.pages c.args.regime.now c.args.kind c.args.ram.now c.args.va (3 - n) (2 - n) c.loop-passed.table c.pte_address-address.result false _ _ same c.pte_address-address.ensures
     (sym c.is_ram.ensures ∙ c.if-not-is_ram.true) refl refl)
 
 pub returns-in-Malformed : goal.returns-in-Malformed
@@ -18,7 +18,7 @@ returns-in-Malformed c =
     let n = c.loop-passed.passed in
     let below = c.loop-passed-test.true in
     let same : 3 - n ≡ suc (2 - n) = omega (arith, below) in
-    sym (c.loop-passed.invariant.walk ∙ from_step c.args.pages c.args.regime.now c.args.kind c.args.ram.now c.args.va (3 - n) (2 - n) c.loop-passed.table c.entry_place-place.result true true _ same c.entry_place-place.ensures
+    sym (c.loop-passed.invariant.walk ∙ from_step c.args.pages c.args.regime.now c.args.kind c.args.ram.now c.args.va (3 - n) (2 - n) c.loop-passed.table c.pte_address-address.result true true _ same c.pte_address-address.ensures
     (sym c.is_ram.ensures ∙ c.if-not-is_ram.false) c.in-Malformed.ensures refl)
 
 pub returns-in-Leaf : goal.returns-in-Leaf
@@ -27,7 +27,7 @@ returns-in-Leaf c =
     let below = c.loop-passed-test.true in
     let same : 3 - n ≡ suc (2 - n) = omega (arith, below) in
     c.at_leaf.ensures
-    ∙ sym (c.loop-passed.invariant.walk ∙ from_step c.args.pages c.args.regime.now c.args.kind c.args.ram.now c.args.va (3 - n) (2 - n) c.loop-passed.table c.entry_place-place.result true false true same c.entry_place-place.ensures
+    ∙ sym (c.loop-passed.invariant.walk ∙ from_step c.args.pages c.args.regime.now c.args.kind c.args.ram.now c.args.va (3 - n) (2 - n) c.loop-passed.table c.pte_address-address.result true false true same c.pte_address-address.ensures
     (sym c.is_ram.ensures ∙ c.if-not-is_ram.false) c.in-Leaf.ensures.0 c.in-Leaf.ensures.1)
 
 pub loop-passed-preserved : goal.loop-passed-preserved
@@ -40,7 +40,7 @@ loop-passed-preserved c =
     record {
       table = omega (arith, below_is);
       walk = c.loop-passed.invariant.walk
-          ∙ from_step c.args.pages c.args.regime.now c.args.kind c.args.ram.now c.args.va (3 - n) (2 - n) c.loop-passed.table c.entry_place-place.result true false false same c.entry_place-place.ensures
+          ∙ from_step c.args.pages c.args.regime.now c.args.kind c.args.ram.now c.args.va (3 - n) (2 - n) c.loop-passed.table c.pte_address-address.result true false false same c.pte_address-address.ensures
           (sym c.is_ram.ensures ∙ c.if-not-is_ram.false) c.in-Pointer.ensures.0 c.in-Pointer.ensures.1
           ∙ ap (λ t. walk_from c.args.pages c.args.regime.now c.args.kind (ram_reads c.args.ram.now) c.args.va (2 - n) t) (sym c.in-Pointer.ensures.2)
           ∙ ap (λ m. walk_from c.args.pages c.args.regime.now c.args.kind (ram_reads c.args.ram.now) c.args.va m c.in-Pointer.below) next;

@@ -3,9 +3,10 @@ use Rattle.std.proofs.Common.{◌≡◌, ◌%◌, ap, sym, ◌∙◌, subst, Lis
 use Rattle.elf_load.specs.Loaded.{Loaded}
 use Rattle.elf_load.proofs.Starts.{start_aligned}
 use Rattle.ref_machine.specs.declared.hart.HartSlot.{HartSlot}
-use Rattle.ref_machine.specs.State.{initial}
+use Rattle.machine_model.specs.State.{initial}
 use Rattle.ref_machine.specs.PlainState.{PlainState, first_slots}
-use Rattle.ref_machine.specs.Shows.{Shows, setup_of}
+use Rattle.ref_machine.specs.Shows.{Shows}
+use Rattle.machine_model.specs.Image.{setup_of}
 use Rattle.ref_machine.proofs.First.{first_shown}
 use Rattle.ref_machine.proofs.machine.PlainMachine.new.Goals as goal
 

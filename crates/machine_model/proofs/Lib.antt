@@ -1,0 +1,13 @@
+pub mod Harts
+pub mod Uniform
+pub mod Owned
+pub mod Reading
+pub mod Named
+pub mod Plainly
+pub mod Grows
+pub mod Fits
+pub mod Reasons
+pub mod Rows
+pub mod Computed
+pub mod Settling
+pub mod Listing
