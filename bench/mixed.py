@@ -1,10 +1,11 @@
 #!/usr/bin/env python3
 """Prints how fast `tlbvm plain` is beside a plain interpreter in C, on two mixed loops.
 
-The first guest loads, adds, shifts, compares, stores and branches in a loop; both take 1,000,000 turns of it, and `plain`
+The first guest loads, adds, shifts, compares, stores and branches in a loop; both take 10,000,000 turns of it, and `plain`
 also where its addresses are translated by pages of 4 KiB. In the second one instruction in four multiplies or divides.
-Both have to end in the same registers. What a call costs besides its turns is taken off: each also runs for one turn, and
-of each the best processor time counts. Skipped, saying so, where there is no C compiler.
+All have to end in the same registers. What a call costs besides its turns is taken off: each also runs for one turn, and
+of each the best processor time of ten counts. Where valgrind is installed, the host's instructions for each of the
+guest's are printed too. Skipped, saying so, where there is no C compiler.
 """
 import os
 import pathlib
@@ -21,8 +22,10 @@ sys.path.insert(0, str(TOP / "examples"))
 from make_hello import elf
 
 PROGRAM = TOP / "crates/tlbvm_main/out/tlbvm_main"
-TURNS = 1_000_000
-RUNS = int(os.environ.get("RUNS", 25))
+TURNS = 10_000_000
+COUNTED_TURNS = 200_000
+RUNS = int(os.environ.get("RUNS", 10))
+ORDER_ENDED = 15
 
 
 def r(opcode, funct3, funct7, rd, rs1, rs2):
@@ -160,17 +163,19 @@ def leaf(page):
     return page << 10 | 0xCF
 
 
+SETTING = [
+    i(0x13, 0, 5, 0, 1),  # addi x5, x0, 1
+    i(0x13, 1, 5, 5, 63),  # slli x5, x5, 63
+    0x80 << 12 | 6 << 7 | 0x37,  # lui x6, 0x80
+    i(0x13, 0, 6, 6, 1),  # addi x6, x6, 1
+    r(0x33, 6, 0, 5, 5, 6),  # or x5, x5, x6
+    i(0x73, 1, 0, 5, 0x180),  # csrrw x0, satp, x5
+]
+
+
 def translated():
     """The same guest behind satp: page tables at 0x80001000, 0x80002000 and 0x80003000 map 2 MiB, page by page, to themselves."""
-    code = [
-        i(0x13, 0, 5, 0, 1),  # addi x5, x0, 1
-        i(0x13, 1, 5, 5, 63),  # slli x5, x5, 63
-        0x80 << 12 | 6 << 7 | 0x37,  # lui x6, 0x80
-        i(0x13, 0, 6, 6, 1),  # addi x6, x6, 1
-        r(0x33, 6, 0, 5, 5, 6),  # or x5, x5, x6
-        i(0x73, 1, 0, 5, 0x180),  # csrrw x0, satp, x5
-        *guest(),
-    ]
+    code = [*SETTING, *guest()]
     root = {2: 0x80002 << 10 | 1}
     middle = {0: 0x80003 << 10 | 1}
     low = {entry: leaf(0x80000 + entry) for entry in range(512)}
@@ -179,51 +184,74 @@ def translated():
     return code + [0] * (1024 - len(code)) + halves
 
 
-def seconds(command, status):
+def seconds(command):
     used = resource.getrusage(resource.RUSAGE_CHILDREN)
     start = used.ru_utime + used.ru_stime
     done = subprocess.run(command, capture_output=True)
-    if done.returncode != status:
+    if done.returncode not in (0, ORDER_ENDED):
         sys.exit(f"{command} ended with status {done.returncode}: {done.stderr.decode()}")
     used = resource.getrusage(resource.RUSAGE_CHILDREN)
     return used.ru_utime + used.ru_stime - start
 
 
-def rate(all_turns, one_turn, status):
-    times = [(seconds(all_turns, status), seconds(one_turn, status)) for _ in range(RUNS)]
+def rate(command):
+    """Millions of turns a second. The command ends with the number of its turns."""
+    times = [(seconds(command(TURNS)), seconds(command(1))) for _ in range(RUNS)]
     best_all, best_one = map(min, zip(*times))
     return (TURNS - 1) / (best_all - best_one) / 1e6
 
 
-def built(folder):
-    """The C interpreter, and by the launcher the program, where it isn't built."""
-    interpreter = folder / "interpreter"
-    subprocess.run([shutil.which("cc"), "-O2", "-o", interpreter, TOP / "bench/interpreter.c"], check=True)
-    (folder / "all.order").write_text(f"turn 0 {TURNS}\n")
-    (folder / "one.order").write_text("turn 0 1\n")
-    (folder / "guest.elf").write_bytes(elf(guest()))
-    subprocess.run([TOP / "tlbvm", "plain", folder / "guest.elf", folder / "one.order"], capture_output=True)
-    return interpreter
+def host_instructions(command, folder):
+    """The host's instructions for each turn, by valgrind; 0 where it isn't installed."""
+    if shutil.which("valgrind") is None:
+        return 0
+    totals = []
+    for turns in (COUNTED_TURNS, 1):
+        counting = ["valgrind", "--tool=callgrind", f"--callgrind-out-file={folder / 'callgrind.out'}"]
+        report = subprocess.run([*counting, *command(turns)], capture_output=True, text=True).stderr
+        totals.append(int(report.split("Collected :")[1].split()[0]))
+    return (totals[0] - totals[1]) / (COUNTED_TURNS - 1)
 
 
-def plain_rate(folder, words):
-    image = folder / "guest.elf"
+def registers(line):
+    """The registers of a hart's line, without its count and pc."""
+    return line.split()[4:]
+
+
+def plain_command(folder, name, words):
+    image = folder / f"{name}.elf"
     image.write_bytes(elf(words))
-    command = [PROGRAM, "plain", image]
-    return rate([*command, folder / "all.order"], [*command, folder / "one.order"], 15)
+
+    def command(turns):
+        order = folder / f"{turns}.order"
+        order.write_text(f"turn 0 {turns}\n")
+        return [PROGRAM, "plain", image, order, "--regs"]
+
+    return command
 
 
-def both_rates(folder, interpreter, words):
-    """The rates of `plain` and of the C interpreter, which have to end in the same registers."""
-    ours = plain_rate(folder, words)
-    raw = folder / "guest.bin"
+def c_command(folder, name, words):
+    raw = folder / f"{name}.bin"
     raw.write_bytes(struct.pack(f"<{len(words)}I", *words))
-    theirs = rate([interpreter, raw, str(TURNS)], [interpreter, raw, "1"], 0)
-    report = subprocess.run([PROGRAM, "plain", folder / "guest.elf", folder / "all.order", "--regs"], capture_output=True).stderr
-    line = subprocess.run([interpreter, raw, str(TURNS)], capture_output=True).stdout
-    if line not in report.splitlines(keepends=True):
-        sys.exit(f"the registers differ: plain reports\n{report.decode()}and the C interpreter\n{line.decode()}")
-    return ours, theirs
+    return lambda turns: [folder / "interpreter", raw, str(turns)]
+
+
+def check_registers(ours, theirs, more):
+    """Both end in the same registers; `plain` takes so many turns more."""
+    report = subprocess.run(ours(TURNS + more), capture_output=True, text=True).stderr
+    line = subprocess.run(theirs(TURNS), capture_output=True, text=True).stdout
+    if registers(line) not in [registers(each) for each in report.splitlines()]:
+        sys.exit(f"the registers differ: plain reports\n{report}and the C interpreter\n{line}")
+
+
+def compare(folder, name, ours, theirs, more=0):
+    check_registers(ours, theirs, more)
+    our_rate, their_rate = rate(ours), rate(theirs)
+    counts = host_instructions(ours, folder), host_instructions(theirs, folder)
+    print(
+        f"{name}: plain {our_rate:.1f} million guest instructions a second; the C interpreter {their_rate:.1f}"
+        f"; ratio {our_rate / their_rate:.2f}; host instructions for each {counts[0]:.1f}; C {counts[1]:.1f}"
+    )
 
 
 def main():
@@ -231,16 +259,16 @@ def main():
         sys.exit("skipped: there is no C compiler (cc)")
     with tempfile.TemporaryDirectory() as folder:
         folder = pathlib.Path(folder)
-        interpreter = built(folder)
-        ours, theirs = both_rates(folder, interpreter, guest())
-        walked = plain_rate(folder, translated())
-        ours_m, theirs_m = both_rates(folder, interpreter, multiplying())
-    print(
-        f"plain: {ours:.1f} million guest instructions a second; the C interpreter: {theirs:.1f}; ratio {ours / theirs:.2f}"
-        f"; under Sv39, every translation walked: {walked:.1f}; ratio {walked / theirs:.2f}"
-        f"; with M: {ours_m:.1f}; the C interpreter: {theirs_m:.1f}; ratio {ours_m / theirs_m:.2f}"
-        f" (processors {os.cpu_count()}, load {os.getloadavg()[0]:.2f})"
-    )
+        subprocess.run([shutil.which("cc"), "-O2", "-o", folder / "interpreter", TOP / "bench/interpreter.c"], check=True)
+        bare = plain_command(folder, "bare", guest())
+        c_bare = c_command(folder, "bare", guest())
+        # The launcher builds the program where it isn't built.
+        subprocess.run([TOP / "tlbvm", *bare(1)[1:]], capture_output=True)
+        compare(folder, "bare", bare, c_bare)
+        compare(folder, "with M", plain_command(folder, "m", multiplying()), c_command(folder, "m", multiplying()))
+        pages = plain_command(folder, "pages", translated())
+        compare(folder, "under Sv39, the C interpreter without", pages, c_bare, len(SETTING))
+    print(f"processors {os.cpu_count()}, load {os.getloadavg()[0]:.2f}")
 
 
 if __name__ == "__main__":

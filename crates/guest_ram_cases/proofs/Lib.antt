@@ -1,2 +1,13 @@
 pub mod Rows
 pub mod Slots
+pub mod Marks
+pub mod Seats
+pub mod Looks
+pub mod Passes
+pub mod Filled
+pub mod Clears
+pub mod Posts
+pub mod Starts
+pub mod Swept
+pub mod Writes
+pub mod Acks

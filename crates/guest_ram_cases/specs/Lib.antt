@@ -1,2 +1,9 @@
 pub mod Made
 pub mod Booted
+pub mod Claims
+pub mod Entries
+pub mod Requests
+pub mod States
+pub mod Sweeps
+pub mod Operations
+pub mod Tours

@@ -1,19 +1,20 @@
 -- The steps that a call made.
-use Rattle.std.specs.Prelude.{◌≡◌, ◌≢◌, ◌≤◌, ◌⊎◌, ℕ, ◌+◌, List, [], ◌∷◌, ◌++◌, length}
+use Rattle.std.specs.Prelude.{◌≡◌, ◌≢◌, ◌≤◌, ◌<◌, ◌⊎◌, ℕ, ◌+◌, ◌/◌, ◌%◌, ◌^◌, true, List, [], ◌∷◌, ◌++◌, length}
 use Rattle.step_laws.specs.declared.steps.Step.{Step}
-use Rattle.step_laws.specs.declared.steps.WordOp.TheVariants.{Load, Store, Add}
-use Rattle.step_laws.specs.Map.{Cons, Console, Pend, Ram, Run, number_of}
+use Rattle.step_laws.specs.declared.steps.WordOp.TheVariants.{Load, Store, Add, Or, Exchange}
+use Rattle.step_laws.specs.Map.{Cons, Console, Dirty, Done, Pend, Ram, Run, Stop, number_of, console_places}
+use Rattle.step_laws.specs.Marks.{is_armed}
 use Rattle.guest_ram.specs.Plays.{step_of}
-use Rattle.guest_ram.specs.Ports.{Shown, took}
+use Rattle.guest_ram.specs.Ports.{Shown, after_step}
 use Rattle.guest_ram.specs.Rule.{record_of}
 
 -- the actor stored in its RUN
 abbrev pub ran : Shown → ℕ → Shown
-ran p value = took p (number_of (Run p.own.actor)) Store value 0
+ran p value = after_step p (number_of (Run p.own.actor)) Store value 0
 
 -- it stored 1 there, and found this in PEND
 abbrev pub asked : Shown → ℕ → Shown
-asked p found = took (ran p 1) (number_of Pend) Load 0 found
+asked p found = after_step (ran p 1) (number_of Pend) Load 0 found
 
 abbrev pub HasEntered : Shown → Shown → Type 0
 HasEntered p q = q ≡ asked p 0
@@ -27,11 +28,11 @@ HasLeft p q = q ≡ ran p 0
 
 -- a place was drawn, and the byte stored there
 abbrev pub HasPut : Shown → Shown → ℕ → Type 0
-HasPut p q byte = (place : ℕ) × (q ≡ took (took p (number_of Cons) Add 1 place) (number_of (Console place)) Store (byte + 256) 0)
+HasPut p q byte = (place : ℕ) × (place < console_places) × (q ≡ after_step (after_step p (number_of Cons) Add 1 place) (number_of (Console place)) Store (byte + 256) 0)
 
 -- a place was drawn that there isn't
 abbrev pub HasFound : Shown → Shown → (place : ℕ) → Type 0
-HasFound p q place = (1048576 ≤ place) × (q ≡ took p (number_of Cons) Add 1 place)
+HasFound p q place = (console_places ≤ place) × (q ≡ after_step p (number_of Cons) Add 1 place)
 
 abbrev pub HasPrinted : Shown → Shown → ℕ → Type 0
 HasPrinted p q byte = HasPut p q byte ⊎ ((place : ℕ) × HasFound p q place)
@@ -41,6 +42,14 @@ abbrev pub AreAdds : ℕ → ℕ → ℕ → List Step → Type 0
 AreAdds actor from value [] = Unit {0}
 AreAdds actor from value (s ∷ r) = (s ≡ step_of actor (number_of (Ram (from + length r))) Add value s.answer) × AreAdds actor from value r
 
+-- the page was marked in its dirty word
+abbrev pub HasMarked : Shown → Shown → (page : ℕ) → Type 0
+HasMarked p q page = (answer : ℕ) × (q ≡ after_step p (number_of (Dirty (page / 64))) Or (2 ^ (page % 64)) answer)
+
+-- the hart is armed for the pages of so many words of RAM from one on
+abbrev pub IsArmedFor : (from count : ℕ) → Shown → Type 0
+IsArmedFor from count p = (i : ℕ) → from ≤ i → i < from + count → is_armed p.own.actor (i / 512) p.own.steps ≡ true
+
 -- so many words of a row were added to, and nothing else has changed
 pub record HasAdded (p q : Shown) (from count value : ℕ) : Type 0 where
   pub added : List Step
@@ -48,16 +57,29 @@ pub record HasAdded (p q : Shown) (from count value : ℕ) : Type 0 where
   pub adds : AreAdds p.own.actor from value added
   pub grown : q ≡ record p { own = record_of p.own.actor p.own.runs (added ++ p.own.steps) }
 
--- the actor entered, added 1 to the first eight words of RAM, put the byte on the console where there was room, and left
+-- the hart marked the first page, entered, added 1 to the first eight words of RAM, put the byte on the console where there was room,
+-- and left
 pub record HasVisited (p q : Shown) (byte : ℕ) : Type 0 where
+  pub marked : Shown
   pub entered : Shown
   pub added : Shown
   pub printed : Shown
-  pub enters : HasEntered p entered
+  pub marks : HasMarked p marked 0
+  pub enters : HasEntered marked entered
   pub adds : HasAdded entered added 0 8 1
   pub prints : HasPrinted added printed byte
   pub leaves : HasLeft printed q
 
--- it found a claimant
-abbrev pub IsSentAway : Shown → Shown → Type 0
-IsSentAway p q = (found : ℕ) × HasGivenUp p found q
+-- or it marked the page and found a claimant
+pub record IsSentAway (p q : Shown) : Type 0 where
+  pub marked : Shown
+  pub found : ℕ
+  pub marks : HasMarked p marked 0
+  pub gives_up : HasGivenUp marked found q
+
+-- STOP was exchanged from 0 for a reason, and found as this
+abbrev pub HasEnded : Shown → (reason found : ℕ) → Shown → Type 0
+HasEnded p reason found q = (before : ℕ) × (q ≡ after_step (after_step p (number_of Stop) (Exchange 0) reason before) (number_of Stop) Load 0 found)
+
+abbrev pub HasSignedOff : Shown → Shown → Type 0
+HasSignedOff p q = q ≡ after_step p (number_of (Done p.own.actor)) Store 1 0

@@ -1,8 +1,10 @@
 // What the loader stores before harts make steps, but for RAM.
 ghost use Rattle.std.specs.Prelude.{◌≡◌, ◌<◌, ◌+◌, ◌*◌, true};
-ghost use Rattle.step_laws.specs.Discipline.{IsBooted};
-ghost use Rattle.step_laws.specs.Record.{is_first_slot};
-ghost use Rattle.guest_ram.specs.Ports.{IsBooting, GoesBy};
+ghost use Rattle.step_laws.specs.Loader.{IsBooted};
+ghost use Rattle.step_laws.specs.Words.{all_slots};
+ghost use Rattle.step_laws.specs.Tables.{is_first_slot};
+ghost use Rattle.guest_ram.specs.Ports.{layout_of, IsBooting, GoesBy};
+ghost use Rattle.guest_ram.specs.Areas.{AnyWord};
 ghost use Rattle.guest_ram_cases.specs.Booted.{IsClear, IsHartBooted};
 
 use guest_ram::Port;
@@ -12,12 +14,12 @@ use step_laws::{TlbField, hsm_word, live_word, size_word, tlb_word};
 #[tactic(auto, using(guest_ram::proofs::MaySteps::boot_kinds))]
 fn clear_slot<P: Port>(port: &mut P, hart: u8, slot: u16)
     requires booting { IsBooting (P.shows port.old) }
-    requires hart { hart < (P.shows port.old).layout.harts }
+    requires hart { hart < (layout_of (P.shows port.old)).harts }
     requires slot { is_first_slot slot ≡ true }
-    requires small { slot < 1032 }
+    requires small { slot < all_slots }
     ensures booting { IsBooting (P.shows port.new) }
     ensures clear { IsClear hart slot (P.shows port.new).own.steps }
-    ensures goes { GoesBy 3 (P.shows port.old) (P.shows port.new) }
+    ensures goes { GoesBy 3 AnyWord (P.shows port.old) (P.shows port.new) }
 {
     port.store(tlb_word(hart, slot, TlbField::Read), 1);
     port.store(tlb_word(hart, slot, TlbField::Write), 1);
@@ -28,10 +30,10 @@ fn clear_slot<P: Port>(port: &mut P, hart: u8, slot: u16)
 #[tactic(auto, using(guest_ram::proofs::MaySteps::boot_kinds))]
 fn boot_table<P: Port>(port: &mut P, hart: u8)
     requires booting { IsBooting (P.shows port.old) }
-    requires hart { hart < (P.shows port.old).layout.harts }
+    requires hart { hart < (layout_of (P.shows port.old)).harts }
     ensures booting { IsBooting (P.shows port.new) }
     ensures booted { IsHartBooted hart (P.shows port.new).own.steps }
-    ensures goes { GoesBy 217 (P.shows port.old) (P.shows port.new) }
+    ensures goes { GoesBy 217 AnyWord (P.shows port.old) (P.shows port.new) }
 {
     port.store(size_word(hart), 64);
     for slot in 0..64 {
@@ -47,8 +49,8 @@ fn boot_table<P: Port>(port: &mut P, hart: u8)
 pub fn boot_words<P: Port>(port: &mut P)
     requires booting { IsBooting (P.shows port.old) }
     ensures booting { IsBooting (P.shows port.new) }
-    ensures booted { IsBooted (P.shows port.new).layout (P.shows port.new).own.steps }
-    ensures goes { GoesBy 1745 (P.shows port.old) (P.shows port.new) }
+    ensures booted { IsBooted (layout_of (P.shows port.new)) (P.shows port.new).own.steps }
+    ensures goes { GoesBy 1745 AnyWord (P.shows port.old) (P.shows port.new) }
 {
     let harts = port.layout().harts;
     port.store(live_word(), 1);

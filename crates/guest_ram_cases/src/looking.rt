@@ -1,17 +1,22 @@
 // A look at the own TLB.
 ghost use Rattle.std.specs.Prelude.{◌≡◌, ◌<◌, []};
-ghost use Rattle.guest_ram.specs.Ports.{IsActing};
+ghost use Rattle.guest_ram.specs.Areas.{IsOfTable};
+ghost use Rattle.guest_ram.specs.Ports.{layout_of, IsActing, GoesBy};
+ghost use Rattle.guest_ram_cases.specs.Entries.{size_loaded};
 
 use guest_ram::Port;
 use step_laws::size_word;
 
 /// The number of main slots that a hart begins with.
-#[tactic(auto, using(guest_ram::proofs::Moves::actor_few))]
+#[tactic(auto, using(guest_ram::proofs::Moves::actor_few, guest_ram::proofs::Moves::acting_adds))]
 pub fn first_size<P: Port>(port: &mut P) -> u64
     requires acting { IsActing (P.shows port.old) }
-    requires hart { (P.shows port.old).own.actor < (P.shows port.old).layout.harts }
+    requires hart { (P.shows port.old).own.actor < (layout_of (P.shows port.old)).harts }
     requires fresh { (P.shows port.old).own.steps ≡ [] }
-    ensures { result ≡ 64 }
+    ensures size { result ≡ 64 }
+    ensures step { (P.shows port.new) ≡ size_loaded (P.shows port.old) result }
+    ensures acting { IsActing (P.shows port.new) }
+    ensures goes { GoesBy 1 IsOfTable (P.shows port.old) (P.shows port.new) }
 {
     let size = size_word(port.actor());
     port.look(size)

@@ -1,8 +1,11 @@
 // Machines of the smallest and the largest size, and two harts on threads.
-use crate::two_harts;
+use crate::{tour, two_harts};
 use guest_ram::open_machine;
 use std::test::Fail;
-use step_laws::{Layout, cons_word, ram_word_at, stop_word};
+use step_laws::{
+    Layout, TlbField, cons_word, dirty_word, done_word, hsm_word, kick_word, live_word, lock_word,
+    pend_word, ram_word_at, run_word, size_word, stop_word, tlb_word,
+};
 
 #[test]
 fn smallest_and_largest_open(rt: HostRuntime) {
@@ -27,5 +30,44 @@ fn two_harts_add_up(rt: HostRuntime) -> Result<(), Fail> {
     assert_eq!(rt; words.get(ram_word_at(8)), 0);
     assert_eq!(rt; words.get(cons_word()), 2);
     assert_eq!(rt; words.get(stop_word()), 0);
+    assert_eq!(rt; words.get(dirty_word(0)), 1);
+    Ok(())
+}
+
+#[test]
+fn each_body_leaves_its_words(rt: HostRuntime) -> Result<(), Fail> {
+    let words = tour(
+        rt.alloc(),
+        Layout {
+            harts: 2,
+            pages: 256,
+        },
+    )?;
+    // the section is released, the call taken, the locks are free
+    assert_eq!(rt; words.get(pend_word()), 0);
+    assert_eq!(rt; words.get(run_word(0)), 0);
+    assert_eq!(rt; words.get(kick_word(1)), 0);
+    assert_eq!(rt; words.get(lock_word(0)), 0);
+    // 12, 10, 15, 6; 4, 7, 8, 8, 11
+    assert_eq!(rt; words.get(ram_word_at(8)), 11);
+    assert_eq!(rt; words.get(stop_word()), 1);
+    assert_eq!(rt; words.get(done_word(0)), 0);
+    assert_eq!(rt; words.get(done_word(1)), 1);
+    // hart 1 is stopped as at the beginning
+    assert_eq!(rt; words.get(live_word()), 1);
+    assert_eq!(rt; words.get(hsm_word(1)), 1);
+    // the slot that was filled, one that was cleared, a victim, and one above the size; the monitor set bit 1 of each WRITE word but the last
+    assert_eq!(rt; words.get(size_word(0)), 128);
+    assert_eq!(rt; words.get(size_word(1)), 64);
+    assert_eq!(rt; words.get(tlb_word(0, 100, TlbField::Read)), 0x4000_0000);
+    assert_eq!(rt; words.get(tlb_word(0, 100, TlbField::Write)), 0x4000_0002);
+    assert_eq!(rt; words.get(tlb_word(0, 100, TlbField::Page)), 0x8000_1000);
+    assert_eq!(rt; words.get(tlb_word(0, 3, TlbField::Write)), 3);
+    assert_eq!(rt; words.get(tlb_word(0, 127, TlbField::Code)), 1);
+    assert_eq!(rt; words.get(tlb_word(0, 1031, TlbField::Write)), 3);
+    assert_eq!(rt; words.get(tlb_word(0, 128, TlbField::Write)), 0);
+    assert_eq!(rt; words.get(tlb_word(1, 3, TlbField::Write)), 1);
+    // the page that hart 1 marked was taken
+    assert_eq!(rt; words.get(dirty_word(0)), 0);
     Ok(())
 }

@@ -51,7 +51,7 @@ reached_sound pages kind pte page level whole = go (is_reachable pages kind page
     go true e = (e, whole)
     go false e = tt
 
-leaf_if : (pages : ℕ) (kind : Kind) (b : Bool) (pte va level : ℕ) → IsSoundEnd pages kind (if b then reachable_leaf pages kind pte (leaf_address pte va level) level else PageFault)
+pub leaf_if : (pages : ℕ) (kind : Kind) (b : Bool) (pte va level : ℕ) → IsSoundEnd pages kind (if b then reachable_leaf pages kind pte (leaf_address pte va level) level else PageFault)
 leaf_if pages kind true pte va level = reached_sound pages kind pte (leaf_address pte va level) level (whole_page _)
 leaf_if pages kind false pte va level = tt
 

@@ -13,6 +13,8 @@ pub mod Called
 pub mod Turns
 pub mod Words
 pub mod Turned
+pub mod Short
+pub mod Leading
 pub mod Runs
 pub mod Lists
 pub mod Decoding

@@ -30,7 +30,7 @@ reachable pages Kind.Fetch pa e = e
 reachable pages Kind.Load pa e = ap (λ b. b || is_device pa) e
 reachable pages Kind.Store pa e = ap (λ b. b || is_device pa) e
 
-no_device : (va : ℕ) → 2 ^ 31 ≤ va → is_device va ≡ false
+pub no_device : (va : ℕ) → 2 ^ 31 ≤ va → is_device va ≡ false
 no_device va low = rw (ne_eqb (va / 4096) 0x10000 (λ e. omega (arith, e, low)), ne_eqb (va / 4096) 0x100 (λ e. omega (arith, e, low))) refl
 
 leaf_there : (pages : ℕ) (r : Regime) (kind : Kind) (l : Levels) (va : ℕ) → is_bare r ≡ true → 2 ^ 31 ≤ va → va < 2 ^ 31 + 4096 * pages → walk_of pages r kind l va ≡ Leaf 0xcf (aligned 12 va) 0

@@ -269,7 +269,7 @@ turned_word h p pa d lt going mode quiet at t =
 
 -- ALL TURNS
 
-turned_step : (h : ℕ) (p : PlainState) (d : Done) → h < length p.slots → p.shared.reason ≡ None → (slot p h).mode ≡ Started → IsStep h (slot p h) p.shared d → Turned h p (after_done p h d)
+pub turned_step : (h : ℕ) (p : PlainState) (d : Done) → h < length p.slots → p.shared.reason ≡ None → (slot p h).mode ≡ Started → IsStep h (slot p h) p.shared d → Turned h p (after_done p h d)
 turned_step h p d lt going mode step = by_pending (pends p h) refl step
   where
     by_spot : pends p h ≡ false → (x : Spot) → spot p h ≡ x → IsFetched h (slot p h) p.shared d x → Turned h p (after_done p h d)

@@ -3,6 +3,8 @@ pub mod Calls
 pub mod SharedState
 pub mod PlainState
 pub mod OneTurn
+pub mod Steps
+pub mod Paths
 pub mod Translation
 pub mod Atomics
 pub mod Given

@@ -54,6 +54,12 @@ pub record IsBareWord (a : Arch) (b : Shared) (va width index : ℕ) : Type 0 wh
   pub load : reach_of a b Kind.Load va width ≡ InRam (One (first_ram_word + index) (va % 8) width)
   pub store : reach_of a b Kind.Store va width ≡ InRam (One (first_ram_word + index) (va % 8) width)
 
+-- the same of an access of one kind
+pub record IsWordOf (a : Arch) (b : Shared) (kind : Kind) (va width index : ℕ) : Type 0 where
+  pub there : index < length b.ram
+  pub fits : va % 8 + width ≤ 8
+  pub reach : reach_of a b kind va width ≡ InRam (One (first_ram_word + index) (va % 8) width)
+
 -- the answer to a need, and what it changes besides its hart
 pub record Effect : Type 0 where
   pub answer : Answer

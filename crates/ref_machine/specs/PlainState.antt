@@ -1,8 +1,9 @@
 -- What the machine on one thread keeps.
-use Rattle.std.specs.Prelude.{◌≡◌, ℕ, ◌-◌, ◌%◌, ◌<◌, ◌≤◌, List, ◌∷◌, length, replicate, IsNone, slice_set, vec_len}
+use Rattle.std.specs.Prelude.{All, ◌≡◌, ℕ, ◌-◌, ◌%◌, ◌<◌, ◌≤◌, List, ◌∷◌, length, replicate, IsNone, slice_set, vec_len}
 use Rattle.machine_model.specs.declared.mode.Mode.TheVariants.{Started, Halted}
 use Rattle.ref_machine.specs.declared.hart.HartSlot.{HartSlot}
 use Rattle.ref_machine.specs.declared.machine.PlainMachine.TheInside.{Inside}
+use Rattle.ref_machine.specs.Paths.{AreWalks}
 use Rattle.ref_machine.specs.SharedState.{Shared}
 use Rattle.ref_machine.specs.Slots.{new_slot, slot_at}
 
@@ -32,6 +33,8 @@ pub record IsKept (m : Inside) : Type 0 where
   pub few : m.shared.layout.harts ≤ 8
   pub there : vec_len m.slots ≡ m.shared.layout.harts
   pub kept : AreKept m.shared m.slots.items
+  pub walks_there : vec_len m.walks ≡ m.shared.layout.harts
+  pub walks : All AreWalks m.walks.items
 
 -- hart 0 begins at the image's start, all others are stopped
 abbrev pub first_slots : (harts start : ℕ) → List HartSlot

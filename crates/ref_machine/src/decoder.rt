@@ -1,6 +1,7 @@
 // Words that were decoded. An entry is found by where its word stands and known by the word itself, so no store in RAM
 // makes one wrong.
-ghost use Rattle.std.specs.Prelude.{◌≡◌, ◌<◌, IfOk, length};
+ghost use Rattle.std.specs.Prelude.{◌≡◌, ◌<◌, IfOk, IsTrue, None, false, length};
+ghost use Rattle.std.specs.Option.{option_copied};
 ghost use Rattle.ref_machine.specs.Decoded as decoded;
 
 use rv64_decode::{Instr, decode};
@@ -64,18 +65,21 @@ fn first_entries(alloc: Global) -> Result<Vec<DecodedWord>, NoMemory>
     Ok(entries)
 }
 
-/// Decodes a word anew, and keeps it.
+/// Decodes a word anew, and keeps it; false where it is no instruction.
 #[inline(never)]
-fn decode_anew(entries: &mut [DecodedWord], index: usize, word: u32) -> Option<Instr>
+fn decode_anew(entries: &mut [DecodedWord], index: usize, word: u32) -> bool
     requires there { index < length entries.old }
     requires all { decoded.AreDecodedWords entries.old }
-    ensures found { decoded.DecodesOnly word result }
+    ensures none { result ≡ false → decoded.DecodesOnly word None }
+    ensures word { IsTrue result → (decoded.entry_at entries.new index).word ≡ word }
     ensures all { decoded.AreDecodedWords entries.new }
     ensures len { length entries.new ≡ length entries.old }
 {
-    let instr = decode(word)?;
+    let Some(instr) = decode(word) else {
+        return false;
+    };
     entries[index] = DecodedWord { word, instr };
-    Some(instr)
+    true
 }
 
 impl Decoder {
@@ -86,15 +90,15 @@ impl Decoder {
     }
 
     /// The instruction of a word that stands at this place; `None` where the word is none.
-    #[inline]
-    pub(crate) fn find(&mut self, word: u32, place: u64) -> Option<Instr>
-        ensures { decoded.DecodesOnly word result }
+    #[inline(always)]
+    pub(crate) fn find(&mut self, word: u32, place: u64) -> Option<&Instr>
+        ensures { decoded.DecodesOnly word (option_copied result) }
     {
         let index = (place / 4) as usize % ENTRIES;
-        let entry = &self.entries[index];
-        if entry.word == word {
-            return Some(entry.instr);
+        let known = self.entries[index].word == word;
+        if !known && !decode_anew(self.entries.as_mut_slice(), index, word) {
+            return None;
         }
-        decode_anew(self.entries.as_mut_slice(), index, word)
+        Some(&self.entries[index].instr)
     }
 }

@@ -1,6 +1,7 @@
 //! The reference machine on one thread, with every translation fresh. Its definition is `machine_model`'s.
 #![tactic(auto)]
 
+mod accesses;
 mod atomics;
 mod calling;
 mod calls;
@@ -8,6 +9,8 @@ mod decoder;
 mod hart;
 mod loader;
 mod machine;
+mod paths;
+mod running;
 mod serving;
 mod shared;
 mod step;

@@ -1,21 +1,25 @@
 // The reference machine on one thread: each turn is one turn of the plain run.
-ghost use Rattle.std.specs.Prelude.{◌≡◌, ◌<◌, ◌%◌, length, IsNone, IsSome, IfOk};
+ghost use Rattle.std.specs.Prelude.{All, vec_len, None, ◌≤◌, replicate, ◌≡◌, ◌<◌, ◌%◌, length, IsNone, IsSome, IfOk};
 ghost use Rattle.elf_load.specs.ImageOf.{IsImageOf};
 ghost use Rattle.step_laws.specs.Layout.{IsInLimits};
 ghost use Rattle.machine_model.specs.State.{initial};
 ghost use Rattle.ref_machine.specs.PlainState as plain;
 ghost use Rattle.ref_machine.specs.OneTurn as one;
+ghost use Rattle.ref_machine.specs.Paths.{AreWalks};
+ghost use Rattle.ref_machine.specs.Ran.{Ran};
 ghost use Rattle.ref_machine.specs.Shows.{Shows, Turned};
 ghost use Rattle.machine_model.specs.Image.{setup_of};
 
 use crate::calling::take_call;
 use crate::decoder::Decoder;
 use crate::hart::HartSlot;
+use crate::paths::Walks;
+use crate::running::run;
 use crate::shared::Shared;
 use crate::step::step;
 use elf_load::Image;
 use machine_model::{Mode, Reason};
-use rv64_exec::Arch;
+use rv64_exec::{Arch, Regime};
 use std::alloc::Global;
 use std::marker::Model;
 use step_laws::Layout;
@@ -27,6 +31,7 @@ pub struct PlainMachine {
     pub(crate) slots: Vec<HartSlot>,
     pub(crate) shared: Shared,
     decoder: Decoder,
+    walks: Vec<Walks>,
 }
 
 impl Model for PlainMachine {
@@ -56,6 +61,29 @@ fn first_slots(alloc: Global, harts: u8, start: u64) -> Result<Vec<HartSlot>, No
     Ok(slots)
 }
 
+/// No walks of any hart yet.
+fn first_walks(alloc: Global, harts: u8) -> Result<Vec<Walks>, NoMemory>
+    ensures len { IfOk result (λ walks. vec_len walks ≡ harts) }
+    ensures kept { IfOk result (λ walks. All AreWalks walks.items) }
+{
+    let none = Walks::new(
+        0,
+        Regime {
+            satp: 0,
+            user: false,
+            sum: false,
+            mxr: false,
+        },
+    );
+    let Ok(mut walks) = Vec::with_capacity(alloc, usize::from(harts)) else {
+        return Err(NoMemory);
+    };
+    for _hart in 0..harts {
+        let _pushed = walks.push(none);
+    }
+    Ok(walks)
+}
+
 impl PlainMachine {
     /// A machine at its first state, with room for all that it may print.
     pub fn new(
@@ -73,10 +101,12 @@ impl PlainMachine {
         let shared = Shared::new(alloc, image, file, layout, limit)?;
         let slots = first_slots(alloc, layout.harts, image.start)?;
         let decoder = Decoder::new(alloc)?;
+        let walks = first_walks(alloc, layout.harts)?;
         Ok(PlainMachine {
             slots,
             shared,
             decoder,
+            walks,
         })
     }
 
@@ -134,6 +164,29 @@ impl PlainMachine {
         }
         self.take_turn(hart);
         self.reason()
+    }
+
+    /// Takes up to so many turns of a hart where the machine goes on, and still goes on behind them; answers how many.
+    pub fn run(&mut self, hart: u8, most: u64) -> u64
+        requires there { hart < self.old.shared.layout.harts }
+        requires going { self.old.shared.reason ≡ None }
+        ensures most { result ≤ most }
+        ensures ran { Ran (replicate result hart) self.old self.new }
+        ensures layout { self.new.shared.layout ≡ self.old.shared.layout }
+        ensures going { self.new.shared.reason ≡ None }
+    {
+        let index = usize::from(hart);
+        match self.slots[index].mode {
+            Mode::Halted | Mode::Pending => 0,
+            Mode::Started => run(
+                hart,
+                &mut self.slots[index],
+                &mut self.shared,
+                &mut self.decoder,
+                &mut self.walks[index],
+                most,
+            ),
+        }
     }
 
     /// A turn of a hart where the machine goes on.

@@ -1,5 +1,5 @@
 // What the machine does for a need that memory or a device answers.
-ghost use Rattle.std.specs.Prelude.{◌≡◌, ◌<◌, ◌≤◌, ◌%◌, ◌∷◌, [], length, IsTrue, IfSome};
+ghost use Rattle.std.specs.Prelude.{None, false, ◌≡◌, ◌<◌, ◌≤◌, ◌%◌, ◌∷◌, [], length, IsTrue, IfSome};
 ghost use Rattle.rv64_exec.specs.Widths.{is_width};
 ghost use Rattle.rv64_exec.specs.declared.needs.Answer.{Answer as TheAnswer};
 ghost use Rattle.rv64_priv.specs.declared.state.Kind.{Kind as TheKind};
@@ -55,7 +55,7 @@ impl Shared {
 
     /// The index of RAM's word that has all bytes of an access, where there is no translation.
     #[inline(always)]
-    fn bare_word(&self, arch: &Arch, va: u64, width: u8) -> Option<usize>
+    pub(crate) fn bare_word(&self, arch: &Arch, va: u64, width: u8) -> Option<usize>
         ensures { IfSome result (λ index. one.IsBareWord arch.now self.now va width index) }
     {
         let index = self.bare_place(arch, va)?;
@@ -67,20 +67,8 @@ impl Shared {
     }
 
     /// The value of a load in a register, or the load's fault.
-    #[inline(always)]
-    pub(crate) fn load(&self, arch: &Arch, va: u64, width: u8, signed: bool) -> Result<u64, Fault>
-        requires { IsTrue (is_width width) }
-        ensures { one.effect_on self.now (perform.load_outcome (ram_memory self.now.ram) va width signed (one.reach_of arch.now self.now TheKind.Load va width)) ≡ one.answers self.now (load_answer result) }
-    {
-        if let Some(index) = self.bare_word(arch, va, width) {
-            let number = number_in(self.ram[index], va % 8, width);
-            return Ok(extended(signed, width, number));
-        }
-        self.load_anywhere(arch, va, width, signed)
-    }
-
     #[inline(never)]
-    fn load_anywhere(&self, arch: &Arch, va: u64, width: u8, signed: bool) -> Result<u64, Fault>
+    pub(crate) fn load(&self, arch: &Arch, va: u64, width: u8, signed: bool) -> Result<u64, Fault>
         requires { IsTrue (is_width width) }
         ensures { one.effect_on self.now (perform.load_outcome (ram_memory self.now.ram) va width signed (one.reach_of arch.now self.now TheKind.Load va width)) ≡ one.answers self.now (load_answer result) }
     {
@@ -106,27 +94,8 @@ impl Shared {
     }
 
     /// Stores, and answers the reason that the store gave to end the machine, or its fault.
-    #[inline(always)]
-    pub(crate) fn store(
-        &mut self,
-        arch: &Arch,
-        va: u64,
-        width: u8,
-        value: u64,
-    ) -> Result<Option<Reason>, Fault>
-        requires { IsTrue (is_width width) }
-        ensures stored { one.effect_on self.old (perform.store_outcome (ram_memory self.old.ram) (one.room self.old) va width value (one.reach_of arch.now self.old TheKind.Store va width)) ≡ one.done_with self.new (store_answer result) (store_reason result) }
-        ensures rest { self.new ≡ record self.old { ram = self.new.ram; console = self.new.console } }
-    {
-        if let Some(index) = self.bare_word(arch, va, width) {
-            self.ram[index] = replace_in(self.ram[index], va % 8, width, value);
-            return Ok(None);
-        }
-        self.store_anywhere(arch, va, width, value)
-    }
-
     #[inline(never)]
-    fn store_anywhere(
+    pub(crate) fn store(
         &mut self,
         arch: &Arch,
         va: u64,
@@ -161,6 +130,21 @@ impl Shared {
             Reach::Device(pa) => self.store_on_device(pa, va, width, value),
             Reach::Faults(fault) => Err(fault),
         }
+    }
+
+    /// Stores within a word of RAM; false, and nothing changed, where the access leads elsewhere.
+    #[inline(never)]
+    pub(crate) fn store_in_ram(&mut self, arch: &Arch, va: u64, width: u8, value: u64) -> bool
+        requires { IsTrue (is_width width) }
+        ensures stored { IsTrue result → one.effect_on self.old (perform.store_outcome (ram_memory self.old.ram) (one.room self.old) va width value (one.reach_of arch.now self.old TheKind.Store va width)) ≡ one.done_with self.new TheAnswer.Nothing None }
+        ensures rest { self.new ≡ record self.old { ram = self.new.ram } }
+        ensures kept { result ≡ false → self.new ≡ self.old }
+    {
+        let Reach::Word { index, offset } = self.reach(arch, Kind::Store, va, width) else {
+            return false;
+        };
+        self.ram[index] = replace_in(self.ram[index], offset, width, value);
+        true
     }
 
     #[inline(never)]

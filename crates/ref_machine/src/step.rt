@@ -1,5 +1,5 @@
 // A turn of a running hart by itself: all of it but the SBI's calls, which may touch other harts.
-ghost use Rattle.std.specs.Prelude.{◌≡◌, ◌≢◌, ◌<◌, ◌/◌, ◌%◌, ◌^◌, ◌+◌, IsNone, IfSome, None, false};
+ghost use Rattle.std.specs.Prelude.{◌≡◌, ◌≢◌, ◌<◌, ◌/◌, ◌%◌, ◌^◌, ◌+◌, IsNone, IfSome, Ok, None, false};
 ghost use Rattle.rv64_decode.specs.Encoding.{IsInRange};
 ghost use Rattle.rv64_exec.specs.Alone.{is_alone};
 ghost use Rattle.rv64_exec.specs.Widths.{IsWellFormedNeed};
@@ -32,7 +32,7 @@ const SOFTWARE_INTERRUPT: u64 = (1 << 63) + 1;
 
 /// The half of a word of RAM that stands at a physical address.
 #[inline]
-fn half_at(word: u64, pa: u64) -> u32
+pub(crate) fn half_at(word: u64, pa: u64) -> u32
     requires { pa % 4 ≡ 0 }
     ensures { result ≡ word / 256 ^ (pa % 8) % 2 ^ 32 }
 {
@@ -46,26 +46,25 @@ fn half_at(word: u64, pa: u64) -> u32
 
 /// An enabled interrupt is pending.
 #[inline]
-fn is_interrupted(hart: u8, arch: &Arch, shared: &Shared) -> bool
+pub(crate) fn is_interrupted(hart: u8, arch: &Arch, shared: &Shared) -> bool
     requires { hart < 8 }
     ensures { result ≡ is_pending arch.now hart shared.now.ipi }
 {
     shared.is_pending(hart) && takes_interrupts(arch)
 }
 
-/// The hart's next word.
+/// The hart's next word, where there is no translation.
 #[inline(always)]
-fn fetch(arch: &Arch, shared: &Shared) -> Result<u32, Fault>
-    ensures { IsWord shared.now.ram (access.spot_of TheKind.Fetch arch.now.pc (one.walk_end arch.now shared.now TheKind.Fetch arch.now.pc)) result }
+pub(crate) fn fetch_bare(arch: &Arch, shared: &Shared) -> Option<u32>
+    ensures { IfSome result (λ word. IsWord shared.now.ram (access.spot_of TheKind.Fetch arch.now.pc (one.walk_end arch.now shared.now TheKind.Fetch arch.now.pc)) (Ok word)) }
 {
-    if let Some(index) = shared.bare_place(arch, arch.pc) {
-        return Ok(half_at(shared.ram[index], arch.pc));
-    }
-    fetch_anywhere(arch, shared)
+    let index = shared.bare_place(arch, arch.pc)?;
+    Some(half_at(shared.ram[index], arch.pc))
 }
 
+/// The hart's next word.
 #[inline(never)]
-fn fetch_anywhere(arch: &Arch, shared: &Shared) -> Result<u32, Fault>
+pub(crate) fn fetch(arch: &Arch, shared: &Shared) -> Result<u32, Fault>
     ensures { IsWord shared.now.ram (access.spot_of TheKind.Fetch arch.now.pc (one.walk_end arch.now shared.now TheKind.Fetch arch.now.pc)) result }
 {
     let pa = fetch_place(shared.ram.as_slice(), shared.layout.pages, arch, arch.pc)?;
@@ -121,15 +120,15 @@ fn execute(
         take_fault(hart, slot, shared, ILLEGAL_INSTRUCTION, u64::from(word));
         return None;
     };
-    if compute(&mut slot.arch, &instr) {
+    if compute(&mut slot.arch, instr) {
         count(hart, slot, shared, None);
         return None;
     }
-    let need = plan(&slot.arch, &instr);
+    let need = plan(&slot.arch, instr);
     if let Need::Sbi = need {
-        return Some(instr);
+        return Some(*instr);
     }
-    serve(hart, slot, shared, &instr, need);
+    serve(hart, slot, shared, instr, need);
     None
 }
 

@@ -96,7 +96,14 @@ fn reached(pages: u32, kind: Kind, pte: u64, page: u64, level: u8) -> WalkEnd
 
 /// The end at an entry that is a leaf.
 #[inline]
-fn at_leaf(pages: u32, regime: &Regime, kind: Kind, va: u64, level: u8, pte: u64) -> WalkEnd
+pub(crate) fn at_leaf(
+    pages: u32,
+    regime: &Regime,
+    kind: Kind,
+    va: u64,
+    level: u8,
+    pte: u64,
+) -> WalkEnd
     requires { level ≤ 2 }
     ensures { end_of result ≡ walk.at_leaf pages regime.now kind va level pte }
 {

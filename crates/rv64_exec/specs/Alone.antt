@@ -1,6 +1,6 @@
 -- How the code divides the work: `compute` does these instructions by itself, and leaves the others to the machine. What an
 -- instruction does is said without this.
-use Rattle.std.specs.Prelude.{ℕ, Bool, true, false, ◌&&◌, ◌||◌, ◌==◌}
+use Rattle.std.specs.Prelude.{◌≡◌, ℕ, Bool, true, false, ◌&&◌, ◌||◌, ◌==◌}
 use Rattle.rv64_decode.specs.Encoding.{form_of}
 use Rattle.rv64_decode.specs.Format.{opcode_of}
 use Rattle.rv64_decode.specs.declared.instruction.Instr.{Instr}
@@ -40,6 +40,10 @@ is_nothing _ = false
 -- a hart does the instruction by itself: it takes and leaves registers and pc alone, and does not trap
 abbrev pub is_alone : Arch → Instr → Bool
 is_alone a i = is_computed i || (is_transfer i && is_nothing (need_of a i))
+
+-- nothing but registers and pc may have changed
+pub record KeepsRest (a a' : Arch) : Type 0 where
+  pub same : a' ≡ record a { x = a'.x; pc = a'.pc }
 
 -- the answer is no fault, so the instruction is done
 abbrev pub IsDone : Answer → Type 0

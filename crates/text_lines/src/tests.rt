@@ -70,7 +70,7 @@ fn knows_comments(rt: HostRuntime) {
 
 #[test]
 fn reads_numbers(rt: HostRuntime) {
-    let numbers: [(&[u8], u64, Option<u64>); 12] = [
+    let numbers: [(&[u8], u64, Option<u64>); 16] = [
         (b"0", 0, Some(0)),
         (b"7", 6, None),
         (b"7", 7, Some(7)),
@@ -83,6 +83,10 @@ fn reads_numbers(rt: HostRuntime) {
         (b"1 ", 9, None),
         (b"0x1", 9, None),
         (b"1000000001", 1_000_000_000, None),
+        (b"18446744073709551615", u64::MAX, Some(u64::MAX)),
+        (b"18446744073709551616", u64::MAX, None),
+        (b"99999999999999999999", u64::MAX, None),
+        (b"1152921504606846976", 1 << 60, Some(1 << 60)),
     ];
     for (text, most, number) in numbers {
         assert!(rt; read_number(text, most) == number);

@@ -1,3 +1,5 @@
+pub mod Quiet
+pub mod Intakes
 pub mod Ends
 pub mod Orderly
 pub mod Reported

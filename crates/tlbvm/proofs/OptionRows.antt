@@ -1,14 +1,14 @@
 -- The definition of a `plain` line computed on lines.
 use Rattle.std.proofs.Common.{◌≡◌, refl, ℕ, List, [], ◌∷◌, Option, Some, None, true, false, Bool}
 use Rattle.std.specs.Prelude.{codes}
-use Rattle.tlbvm.specs.Options.{Line, line_of, with_value}
+use Rattle.tlbvm.specs.Options.{Line, Plain, line_of, with_value}
 
 -- a line of the operands e and o
 abbrev says : (harts pages limit : ℕ) → Bool → Option Line
-says harts pages limit regs = Some (record { elf = codes "e"; order = codes "o"; harts = harts; pages = pages; limit = limit; regs = regs })
+says harts pages limit regs = Some (Plain (codes "e") (codes "o") (record { harts = harts; pages = pages; limit = limit; regs = regs }))
 
 abbrev names : (elf order : List ℕ) → Option Line
-names elf order = Some (record { elf = elf; order = order; harts = 1; pages = 1024; limit = 50000000; regs = false })
+names elf order = Some (Plain elf order (record { harts = 1; pages = 1024; limit = 50000000; regs = false }))
 
 operands : line_of (codes "plain" ∷ codes "e" ∷ codes "o" ∷ []) ≡ says 1 1024 50000000 false
 operands = refl

@@ -6,7 +6,7 @@ use Rattle.text_lines.specs.Lines.{lines_of, words_of, says_nothing}
 use Rattle.text_lines.specs.Number.{decimal_value, is_number, number_within}
 use Rattle.tlbvm.specs.declared.items.Item.{Item}
 use Rattle.tlbvm.specs.declared.items.Item.TheVariants.{Monitor, Rounds}
-use Rattle.tlbvm.specs.Items.{items_of, items_from, item_of, turn_of, counted_of, count_of, is_within, turns_in}
+use Rattle.tlbvm.specs.Items.{order_of, items_from, item_of, turn_of, counted_of, count_of, is_within, turns_in}
 use Rattle.tlbvm.specs.Turns.{IsItemThere, AreThere}
 
 number_small : (text : List ℕ) (most n : ℕ) → number_within text most ≡ Some n → n ≤ most
@@ -94,5 +94,5 @@ from_there harts (text ∷ texts) line items turns all some k e =
     go false None h f rest = cc
     go false (Some item) h f rest = inside item (is_within (length items + 1) (turns + turns_in harts item)) (item_there harts (words_of text) item some h) f rest
 
-pub items_there : (text : List ℕ) (harts : ℕ) (items : List Item) → 1 ≤ harts → items_of text harts ≡ Ok items → AreThere harts items
+pub items_there : (text : List ℕ) (harts : ℕ) (items : List Item) → 1 ≤ harts → order_of text harts ≡ Ok items → AreThere harts items
 items_there text harts items some e = from_there harts (lines_of text) 1 [] 0 items some (λ i lt. absurd (omega (arith, lt))) e

@@ -3,12 +3,12 @@ use Rattle.std.specs.Prelude.{ℕ, ◌+◌, ◌-◌, ◌*◌, Bool, ◌&&◌, na
 use Rattle.text_lines.specs.Lines.{lines_of, words_of, says_nothing}
 use Rattle.text_lines.specs.Number.{number_within}
 use Rattle.tlbvm.specs.declared.items.Item.{Item}
-use Rattle.tlbvm.specs.declared.items.Item.TheVariants.{Turn, Monitor, Rounds}
+use Rattle.tlbvm.specs.declared.items.Item.TheVariants.{Hart, Monitor, Rounds}
 
 -- how many turns an item gives; a round gives one to each hart and then one to the monitor
 abbrev pub turns_in : (harts : ℕ) → Item → ℕ
-turns_in harts (Turn hart count) = count
-turns_in harts (Monitor count) = count
+turns_in harts (Hart hart turns) = turns
+turns_in harts (Monitor turns) = turns
 turns_in harts (Rounds count) = count * (harts + 1)
 
 -- a count that is not 0
@@ -21,7 +21,7 @@ abbrev pub count_of : List ℕ → Option ℕ
 count_of word = from_one (number_within word 1000000000)
 
 abbrev pub turn_of : (hart count : Option ℕ) → Option Item
-turn_of (Some hart) (Some count) = Some (Turn hart count)
+turn_of (Some hart) (Some count) = Some (Hart hart count)
 turn_of _ _ = None
 
 -- `mon N` or `rounds N`
@@ -42,7 +42,7 @@ item_of harts _ = None
 abbrev pub is_within : (items turns : ℕ) → Bool
 is_within items turns = nat_le items 1000000 && nat_le turns 1000000000
 
--- The items of the lines from that number on, behind items with so many turns; or the number of the first bad line.
+-- The items of the lines from that number on, after items with so many turns; or the number of the first bad line.
 abbrev pub items_from : (harts : ℕ) → List (List ℕ) → (line : ℕ) → List Item → (turns : ℕ) → Result (List Item) ℕ
 items_from harts [] line items turns = Ok items
 items_from harts (text ∷ texts) line items turns =
@@ -54,5 +54,6 @@ items_from harts (text ∷ texts) line items turns =
           else Err line
     ]
 
-abbrev pub items_of : List ℕ → (harts : ℕ) → Result (List Item) ℕ
-items_of text harts = items_from harts (lines_of text) 1 [] 0
+-- The items of a text, or the number of its first bad line, from 1.
+abbrev pub order_of : List ℕ → (harts : ℕ) → Result (List Item) ℕ
+order_of text harts = items_from harts (lines_of text) 1 [] 0

@@ -1,6 +1,7 @@
 pub mod Status
 pub mod Report
 pub mod Refused
+pub mod Intake
 pub mod Call
 pub mod Answers
 pub mod Turns

@@ -1,11 +1,29 @@
--- A line as the program keeps it.
-use Rattle.std.specs.Prelude.{◌≤◌}
-use Rattle.tlbvm.specs.declared.options.PlainLine.{PlainLine}
-use Rattle.tlbvm.specs.Options.{Line}
+-- A line as the program keeps it, and what it has read of one.
+use Rattle.std.specs.Prelude.{◌≤◌, map}
+use Rattle.tlbvm.specs.declared.options.seen.Seen.{Seen}
+use Rattle.tlbvm.specs.declared.options.Asked.{Asked as AskedRead}
+use Rattle.tlbvm.specs.declared.options.Line.{Line as LineRead}
+use Rattle.tlbvm.specs.Options.{Asked, Line, Plain, SoFar}
 
-abbrev pub line_as : PlainLine → Line
-line_as line = record { elf = line.elf.now; order = line.order.now; harts = line.harts; pages = line.pages; limit = line.limit; regs = line.regs }
+abbrev pub asked_as : AskedRead → Asked
+asked_as asked = record { harts = asked.harts; pages = asked.pages; limit = asked.limit; regs = asked.regs }
+
+abbrev pub line_as : LineRead → Line
+line_as (LineRead.Plain elf order asked) = Plain elf.now order.now (asked_as asked)
 
 -- the machines that a line can ask for
-abbrev pub IsInLimits : Line → Type 0
-IsInLimits line = (1 ≤ line.harts) × (line.harts ≤ 8) × (256 ≤ line.pages) × (line.pages ≤ 4096) × (1 ≤ line.limit) × (line.limit ≤ 1000000000000)
+abbrev pub IsInLimits : Asked → Type 0
+IsInLimits asked = (1 ≤ asked.harts) × (asked.harts ≤ 8) × (256 ≤ asked.pages) × (asked.pages ≤ 4096) × (1 ≤ asked.limit) × (asked.limit ≤ 1000000000000)
+
+abbrev pub IsLineInLimits : Line → Type 0
+IsLineInLimits (Plain elf order asked) = IsInLimits asked
+
+-- what the code has read so far
+abbrev pub shown : Seen → SoFar
+shown seen = record {
+  operands = map (λ r. r.now) seen.operands.items;
+  harts = seen.harts;
+  pages = seen.pages;
+  limit = seen.limit;
+  regs = seen.regs;
+}

@@ -1,30 +1,30 @@
--- The command line of `plain`: two operands, ELF and ORDER, and options, which stand at any place behind the command.
-use Rattle.std.specs.Prelude.{ℕ, Bool, true, false, not, ◌||◌, ◌==◌, nat_le, if◌then◌else◌, List, [], ◌∷◌, Option, Some, None, is_none, codes, bytes_eq, unwrap_or}
+-- A command line: a command, its operands, and options, which stand at any place behind the command.
+use Rattle.std.specs.Prelude.{ℕ, Bool, true, false, not, ◌||◌, ◌==◌, nat_le, nat_lt, if◌then◌else◌, List, [], ◌∷◌, ◌++◌, length, Option, Some, None, codes, bytes_eq, unwrap_or}
 use Rattle.std.specs.List.{before_first, after_first, list_any}
-use Rattle.std.specs.Option.{option_and_then, option_copied, option_map}
+use Rattle.std.specs.Option.{option_and_then, option_map}
 use Rattle.text_lines.specs.Number.{number_within}
-use Rattle.tlbvm.specs.declared.options.seen.Seen.{Seen}
 
--- what a line says
-pub record Line : Type 0 where
-  pub elf : List ℕ
-  pub order : List ℕ
+-- the machine that a line asks for, and whether the registers are to be reported
+pub record Asked : Type 0 where
   pub harts : ℕ
   pub pages : ℕ
   pub limit : ℕ
   pub regs : Bool
 
+-- what a line says, by its command
+pub data Line : Type 0 where
+  Plain : (elf order : List ℕ) (asked : Asked) → Line
+
 -- what was read so far
 pub record SoFar : Type 0 where
-  pub elf : Option (List ℕ)
-  pub order : Option (List ℕ)
+  pub operands : List (List ℕ)
   pub harts : Option ℕ
   pub pages : Option ℕ
   pub limit : Option ℕ
   pub regs : Bool
 
 abbrev pub nothing : SoFar
-nothing = record { elf = None; order = None; harts = None; pages = None; limit = None; regs = false }
+nothing = record { operands = []; harts = None; pages = None; limit = None; regs = false }
 
 -- WORDS
 
@@ -52,11 +52,13 @@ value_in word = after_first is_equals word
 
 -- WHAT THEY SAY
 
--- the first operand is ELF, the second is ORDER, and there is no third
+-- an operand more; no command has more than three
+abbrev pub most_operands : ℕ
+most_operands = 3
+
 abbrev pub with_operand : List ℕ → SoFar → Option SoFar
 with_operand word seen =
-    if is_none seen.elf then Some (record seen { elf = Some word }) else
-    if is_none seen.order then Some (record seen { order = Some word }) else None
+    if nat_lt (length seen.operands) most_operands then Some (record seen { operands = seen.operands ++ word ∷ [] }) else None
 
 -- `--regs`, once
 abbrev pub with_regs : SoFar → Option SoFar
@@ -100,31 +102,25 @@ after_words (word ∷ words) None seen =
     if has_value word then option_and_then (after_words words None) (with_value (name_in word) (value_in word) seen) else
     after_words words (Some word) seen
 
--- both operands are there; an option that is not has its default
-abbrev pub line_from : SoFar → Option Line
-line_from seen =
-    option_and_then (λ elf. option_and_then (λ order. Some (record {
-      elf = elf;
-      order = order;
-      harts = unwrap_or seen.harts 1;
-      pages = unwrap_or seen.pages 1024;
-      limit = unwrap_or seen.limit 50000000;
-      regs = seen.regs;
-    })) seen.order) seen.elf
+-- an option that is not there has its default
+abbrev pub asked_of : SoFar → Asked
+asked_of seen = record {
+  harts = unwrap_or seen.harts 1;
+  pages = unwrap_or seen.pages 1024;
+  limit = unwrap_or seen.limit 50000000;
+  regs = seen.regs;
+}
+
+-- `plain ELF ORDER`
+abbrev pub plain_from : (operands : List (List ℕ)) → Asked → Option Line
+plain_from (elf ∷ order ∷ []) asked = Some (Plain elf order asked)
+plain_from _ asked = None
+
+-- the line of a command
+abbrev pub line_from : (command : List ℕ) → SoFar → Option Line
+line_from command seen = if bytes_eq command (codes "plain") then plain_from seen.operands (asked_of seen) else None
 
 -- the words of a line, of which the first is the command
 abbrev pub line_of : List (List ℕ) → Option Line
 line_of [] = None
-line_of (command ∷ words) =
-    if bytes_eq command (codes "plain") then option_and_then line_from (after_words words None nothing) else None
-
--- what the code has read so far
-abbrev pub shown : Seen → SoFar
-shown seen = record {
-  elf = option_copied seen.elf;
-  order = option_copied seen.order;
-  harts = seen.harts;
-  pages = seen.pages;
-  limit = seen.limit;
-  regs = seen.regs;
-}
+line_of (command ∷ words) = option_and_then (line_from command) (after_words words None nothing)

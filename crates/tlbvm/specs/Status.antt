@@ -1,5 +1,5 @@
 -- The exit codes and lines of the statuses, and the status of a machine that has ended.
-use Rattle.std.specs.Prelude.{ℕ, List, ◌++◌, Option, Some, None, codes, decimal}
+use Rattle.std.specs.Prelude.{ℕ, Bool, true, false, List, ◌++◌, Option, Some, None, codes, decimal}
 use Rattle.elf_load.specs.declared.image.BadImage.{BadImage}
 use Rattle.machine_model.specs.declared.reason.Reason.{Reason}
 use Rattle.tlbvm.specs.declared.status.Status.{Status}
@@ -56,3 +56,21 @@ status_for (Some (Reason.Limit hart)) = Status.Limit hart
 status_for (Some Reason.OutFull) = Status.OutFull
 status_for (Some Reason.AllStopped) = Status.AllStopped
 status_for (Some Reason.Stopped) = Status.Stopped
+
+-- the answers that refuse what was read, before a machine's start
+abbrev pub is_refusal : Status → Bool
+is_refusal Status.ReadFault = true
+is_refusal Status.TooLong = true
+is_refusal (Status.BadImage kind) = true
+is_refusal (Status.BadOrder line) = true
+is_refusal _ = false
+
+-- the answers that come only where a machine has ended
+abbrev pub is_end : Status → Bool
+is_end Status.Usage = false
+is_end Status.ReadFault = false
+is_end Status.TooLong = false
+is_end (Status.BadImage kind) = false
+is_end (Status.BadOrder line) = false
+is_end Status.NoMemory = false
+is_end _ = true

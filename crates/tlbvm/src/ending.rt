@@ -1,5 +1,5 @@
 // What is written when a machine has ended.
-ghost use Rattle.std.specs.Prelude.{◌≡◌, ◌≤◌, ◌⊎◌, OnOk, OnErr, map};
+ghost use Rattle.std.specs.Prelude.{◌≡◌, ◌≤◌, ◌⊎◌, OnOk, OnErr, [], map};
 ghost use Rattle.ref_machine.specs.Shows.{resting};
 ghost use Rattle.tlbvm.specs.Call.{written_of, Gets, GetsNothing, GetsPart};
 ghost use Rattle.tlbvm.specs.Report.{report_from};
@@ -17,8 +17,8 @@ pub(crate) fn write_end<O: Sink, L: Sink>(
     log: &mut L,
 ) -> Result<(), Failed>
     requires { machine.now.shared.layout.harts ≤ 8 }
-    ensures ok { OnOk result (Gets (written_of O.taken O.faults out.old out.new) machine.now.shared.console × Gets (written_of L.taken L.faults log.old log.new) (report_from regs reason (map resting machine.now.slots))) }
-    ensures err { OnErr result ((GetsPart (written_of O.taken O.faults out.old out.new) machine.now.shared.console × GetsNothing (written_of L.taken L.faults log.old log.new)) ⊎ (Gets (written_of O.taken O.faults out.old out.new) machine.now.shared.console × GetsPart (written_of L.taken L.faults log.old log.new) (report_from regs reason (map resting machine.now.slots)))) }
+    ensures ok { OnOk result (Gets (written_of O.taken O.faults out.old out.new) machine.now.shared.console × Gets (written_of L.taken L.faults log.old log.new) (report_from regs [] reason (map resting machine.now.slots))) }
+    ensures err { OnErr result ((GetsPart (written_of O.taken O.faults out.old out.new) machine.now.shared.console × GetsNothing (written_of L.taken L.faults log.old log.new)) ⊎ (Gets (written_of O.taken O.faults out.old out.new) machine.now.shared.console × GetsPart (written_of L.taken L.faults log.old log.new) (report_from regs [] reason (map resting machine.now.slots)))) }
 {
     if write_all(out, machine.console()).is_err() {
         return Err(Failed);

@@ -3,13 +3,10 @@ ghost use Rattle.std.specs.Prelude.{◌≡◌, ◌≤◌, ◌-◌, ◌^◌, ℕ,
 ghost use Rattle.tlbvm.specs.declared.items.OrderErr.TheVariants.{Bad};
 ghost use Rattle.text_lines.specs.Lines.{words_of};
 ghost use Rattle.text_lines.specs.Number.{number_within};
-ghost use Rattle.tlbvm.specs.Items.{items_of, item_of, turn_of, counted_of, count_of, turns_in};
+ghost use Rattle.tlbvm.specs.Items.{order_of, item_of, turn_of, counted_of, count_of, turns_in};
 
 use std::alloc::Global;
 use text_lines::{next_line, next_word, read_number, says_nothing};
-
-#[cfg(test)]
-mod tests;
 
 /// How many items an order may have.
 const MOST_ITEMS: usize = 1_000_000;
@@ -17,19 +14,20 @@ const MOST_ITEMS: usize = 1_000_000;
 /// How many turns an order may give.
 const MOST_TURNS: u64 = 1_000_000_000;
 
-/// What an order's line gives turns to.
+/// What a line of an order gives turns to: so many to one hart, or to the monitor, or so many rounds. A round is a turn
+/// of each hart, in order, and then one of the monitor.
 #[derive(Clone, Copy, Debug, PartialEq, Eq)]
-pub(crate) enum Item {
-    Turn { hart: u8, count: u64 },
-    Monitor { count: u64 },
-    Rounds { count: u64 },
+pub enum Item {
+    Hart { hart: u8, turns: u64 },
+    Monitor { turns: u64 },
+    Rounds { rounds: u64 },
 }
 
-/// Why a text gives no items.
+/// Why a text is no order.
 #[derive(Clone, Copy, Debug, PartialEq, Eq)]
-pub(crate) enum OrderErr {
+pub enum OrderErr {
     /// The number of the first bad line, from 1.
-    Bad(u64),
+    Bad { line: u64 },
     NoMemory,
 }
 
@@ -46,9 +44,9 @@ fn read_counted(command: &[u8], count: &[u8]) -> Option<Item>
 {
     let count = read_count(count)?;
     if command == b"mon".as_slice() {
-        Some(Item::Monitor { count })
+        Some(Item::Monitor { turns: count })
     } else if command == b"rounds".as_slice() {
-        Some(Item::Rounds { count })
+        Some(Item::Rounds { rounds: count })
     } else {
         None
     }
@@ -59,8 +57,8 @@ fn read_turn(hart: &[u8], count: &[u8], harts: u8) -> Option<Item>
     ensures { result ≡ turn_of (number_within hart.now (harts - 1)) (count_of count.now) }
 {
     let hart = read_number(hart, u64::from(harts) - 1)? as u8;
-    let count = read_count(count)?;
-    Some(Item::Turn { hart, count })
+    let turns = read_count(count)?;
+    Some(Item::Hart { hart, turns })
 }
 
 fn read_item(line: &[u8], harts: u8) -> Option<Item>
@@ -84,17 +82,23 @@ fn turns_in(item: Item, harts: u8) -> u64
     ensures { result ≡ min (turns_in harts item) (2 ^ 64 - 1) }
 {
     match item {
-        Item::Turn { count, .. } | Item::Monitor { count } => count,
-        Item::Rounds { count } => count.saturating_mul(u64::from(harts) + 1),
+        Item::Hart { turns, .. } | Item::Monitor { turns } => turns,
+        Item::Rounds { rounds } => rounds.saturating_mul(u64::from(harts) + 1),
     }
 }
 
-/// The items of an order's text.
-pub(crate) fn read_items(alloc: Global, text: &[u8], harts: u8) -> Result<Vec<Item>, OrderErr>
+/// The items of an order for so many harts. Its lines are `turn H N`, `mon N` and `rounds N`, with counts from 1; a line
+/// without words and one whose first word begins with `#` say nothing. An order has at most 1,000,000 items and gives at
+/// most 1,000,000,000 turns.
+///
+/// # Errors
+///
+/// `Bad` with the number of the first line that is none of these, or at which there are too many items or turns.
+pub fn read_order(alloc: Global, text: &[u8], harts: u8) -> Result<Vec<Item>, OrderErr>
     requires some { 1 ≤ harts }
     requires few { harts ≤ 8 }
-    ensures ok { IfOk result (λ items. items_of text.now harts ≡ Ok items.items) }
-    ensures bad { (line : ℕ) → result ≡ Err (Bad line) → items_of text.now harts ≡ Err line }
+    ensures ok { IfOk result (λ items. order_of text.now harts ≡ Ok items.items) }
+    ensures bad { (line : ℕ) → result ≡ Err (Bad line) → order_of text.now harts ≡ Err line }
 {
     let mut items = Vec::new(alloc);
     let mut turns = 0;
@@ -103,7 +107,7 @@ pub(crate) fn read_items(alloc: Global, text: &[u8], harts: u8) -> Result<Vec<It
     while let Some((line, behind)) = next_line(rest) {
         rest = behind;
         number += 1;
-        let bad = OrderErr::Bad(number);
+        let bad = OrderErr::Bad { line: number };
         if says_nothing(line) {
             continue;
         }

@@ -12,6 +12,7 @@ mod taking;
 mod top;
 
 pub use elf_load::BadImage;
-pub use options::{PlainLine, read_line};
+pub use items::{Item, OrderErr, read_order};
+pub use options::{Asked, Line, read_line};
 pub use status::{Status, code, status_line};
 pub use top::tlbvm_still;

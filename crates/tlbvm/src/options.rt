@@ -1,27 +1,33 @@
-// The command line of `plain`: two operands, and options at any place behind the command.
+// A command line: a command, its operands, and options at any place behind the command.
 ghost use Rattle.std.specs.Prelude.{◌≡◌, true, false, None, Some, MatchOption, IfSome, map, string_bytes};
 ghost use Rattle.std.specs.Option.{option_map};
-ghost use Rattle.tlbvm.specs.Lines.{line_as, IsInLimits};
-ghost use Rattle.tlbvm.specs.Options.{after_operands, after_words, has_value, is_dashed, is_operand, line_from, line_of, name_in, shown, value_in};
+ghost use Rattle.tlbvm.specs.Lines.{asked_as, line_as, shown, IsInLimits, IsLineInLimits};
+ghost use Rattle.tlbvm.specs.Options.{after_operands, after_words, asked_of, has_value, is_dashed, is_operand, line_of, name_in, plain_from, value_in};
 
 mod seen;
-#[cfg(test)]
-mod tests;
 mod values;
 
 use seen::Seen;
-use values::{with_operand, with_regs, with_value};
+use values::{nothing, with_operand, with_regs, with_value};
 
-/// What a `plain` line says: the files' names, the machine (harts, pages of 4 KiB, the limit of instructions of each
-/// hart), and whether registers are reported.
-#[derive(Clone, Copy)]
-pub struct PlainLine<'a> {
-    pub elf: &'a str,
-    pub order: &'a str,
+/// The machine that a line asks for: harts, pages of 4 KiB, the limit of instructions of each hart; and whether its
+/// registers are to be reported.
+#[derive(Clone, Copy, Debug, PartialEq, Eq)]
+pub struct Asked {
     pub harts: u8,
     pub pages: u32,
     pub limit: u64,
     pub regs: bool,
+}
+
+/// What a line says, by its command. The operands are names of files.
+#[derive(Clone, Copy)]
+pub enum Line<'a> {
+    Plain {
+        elf: &'a str,
+        order: &'a str,
+        asked: Asked,
+    },
 }
 
 fn is_dashed(word: &str) -> bool
@@ -88,34 +94,46 @@ fn read_words<'a>(mut seen: Seen<'a>, words: &'a [String]) -> Option<Seen<'a>>
     Some(seen)
 }
 
-/// Both operands are there; an option that is not has its default.
-fn line_from(seen: Seen<'_>) -> Option<PlainLine<'_>>
-    ensures says { MatchOption result (line_from (shown seen.entry) ≡ None)
-        (λ line. line_from (shown seen.entry) ≡ Some (line_as line)) }
-    ensures limits { IfSome result (λ line. IsInLimits (line_as line)) }
+/// An option that is not there has its default.
+fn asked_of(seen: &Seen<'_>) -> Asked
+    ensures says { asked_as result ≡ asked_of (shown seen.now) }
+    ensures limits { IsInLimits (asked_as result) }
 {
-    Some(PlainLine {
-        elf: seen.elf?,
-        order: seen.order?,
+    Asked {
         harts: seen.harts.unwrap_or(1),
         pages: seen.pages.unwrap_or(1024),
         limit: seen.limit.unwrap_or(50_000_000),
         regs: seen.regs,
+    }
+}
+
+/// `plain ELF ORDER`.
+fn plain_from<'a>(seen: &Seen<'a>) -> Option<Line<'a>>
+    ensures says { option_map line_as result ≡ plain_from (shown seen.now).operands (asked_of (shown seen.now)) }
+    ensures limits { IfSome result (λ line. IsLineInLimits (line_as line)) }
+{
+    let [elf, order] = seen.operands.as_slice() else {
+        return None;
+    };
+    Some(Line::Plain {
+        elf: *elf,
+        order: *order,
+        asked: asked_of(seen),
     })
 }
 
-/// The words of a `plain` line, read: the command, two operands, and options at any place behind the command; `None`
-/// where they are no such line. Behind `--` each word is an operand.
-pub fn read_line(words: &[String]) -> Option<PlainLine<'_>>
-    ensures says { MatchOption result (line_of (map string_bytes words.now) ≡ None)
-        (λ line. line_of (map string_bytes words.now) ≡ Some (line_as line)) }
-    ensures limits { IfSome result (λ line. IsInLimits (line_as line)) }
+/// The words of a line, read: the command, its operands, and options at any place behind the command; `None` where they
+/// are no line. Behind `--` each word is an operand.
+pub fn read_line(words: &[String]) -> Option<Line<'_>>
+    ensures says { option_map line_as result ≡ line_of (map string_bytes words.now) }
+    ensures limits { IfSome result (λ line. IsLineInLimits (line_as line)) }
 {
     let [command, words @ ..] = words else {
         return None;
     };
-    if command.as_str() != "plain" {
-        return None;
+    let seen = read_words(nothing(), words)?;
+    match command.as_str() {
+        "plain" => plain_from(&seen),
+        _ => None,
     }
-    line_from(read_words(Seen::NOTHING, words)?)
 }

@@ -131,7 +131,7 @@ fn push_harts(text: &mut Report, machine: &PlainMachine, hart: u8)
 /// The report of a machine by its first reason, with all registers where they are asked for.
 pub(crate) fn report(machine: &PlainMachine, reason: Option<Reason>, regs: bool) -> Report
     requires { machine.now.shared.layout.harts ≤ 8 }
-    ensures { result.bytes ≡ report_from regs reason (map resting machine.now.slots) }
+    ensures { result.bytes ≡ report_from regs [] reason (map resting machine.now.slots) }
 {
     let mut text = ArrayString::new();
     push_end(&mut text, reason);

@@ -1,28 +1,18 @@
 // The reads and checks before the start, in their order, and the machine that they lead to.
-ghost use Rattle.std.specs.Prelude.{◌≡◌, ◌≤◌, ◌<◌, ℕ, List, IfOk, None, IfErr, IfSome, OnErr};
-ghost use Rattle.vm_io.specs.Faults.{Rose};
-ghost use Rattle.tlbvm.specs.Call.{CauseOf, IsStarted, files_of, layout_of};
-ghost use Rattle.tlbvm.specs.Lines.{line_as, IsInLimits};
-ghost use Rattle.tlbvm.specs.Turns.{AreThere};
+ghost use Rattle.std.specs.Prelude.{◌≡◌, ◌≤◌, ℕ, List, IfOk, None, IfErr};
+ghost use Rattle.tlbvm.specs.Intake.{layout_of, name_of, plain_intake, WereRead};
+ghost use Rattle.tlbvm.specs.Lines.{asked_as, IsInLimits};
+ghost use Rattle.tlbvm.specs.Refused.{IsRefused, IsStarted, IsUnread};
+ghost use Rattle.tlbvm.specs.Turns.{hart_turns, turns_of, AreThere};
 
-use crate::items::{Item, OrderErr, read_items};
-use crate::options::PlainLine;
-use elf_load::{BadImage, ImageErr, parse};
+use crate::items::{Item, read_order};
+use crate::options::Asked;
+use crate::status::Status;
+use elf_load::parse;
 use ref_machine::PlainMachine;
 use std::alloc::Global;
 use step_laws::Layout;
-use vm_io::{Images, NoMemory, ReadErr, read_all};
-
-/// Why no machine was started.
-#[derive(Clone, Copy, Debug, PartialEq, Eq)]
-pub(crate) enum Refusal {
-    ReadFault,
-    TooLong,
-    BadImage(BadImage),
-    /// The number of the order's first bad line.
-    BadOrder(u64),
-    NoMemory,
-}
+use vm_io::{Images, read_all};
 
 /// A machine at its first state, and what its order gives turns to.
 #[derive(Drop)]
@@ -31,77 +21,40 @@ pub(crate) struct Job {
     pub items: Vec<Item>,
 }
 
-/// Reads and checks the files of a line, and makes their machine.
+/// Reads a file that a line names.
+fn read_file<F: Images>(alloc: Global, images: &mut F, name: &str) -> Result<Vec<u8>, Status>
+    ensures ok { IfOk result (λ file. WereRead (name_of F.told F.faults images.old images.new name.now) file.items) }
+    ensures err { IfErr result (λ status. IsUnread (name_of F.told F.faults images.old images.new name.now) status) }
+    ensures grows { (other : List ℕ) → F.faults images.old other ≤ F.faults images.new other }
+    ensures same { (other : List ℕ) → F.told images.new other ≡ F.told images.old other }
+{
+    Ok(read_all(alloc, images, name)?)
+}
+
+/// Reads and checks the files of a `plain` line, and makes their machine.
 pub(crate) fn start<F: Images>(
     alloc: Global,
-    line: &PlainLine<'_>,
+    elf: &str,
+    order: &str,
+    asked: Asked,
     images: &mut F,
-) -> Result<Job, Refusal>
-    requires { IsInLimits (line_as line.now) }
-    ensures ok { IfOk result (λ job. IsStarted (line_as line.now) (files_of F.told F.faults images.old images.new (line_as line.now)) job.machine job.items.items) }
-    ensures there { IfOk result (λ job. AreThere line.now.harts job.items.items) }
-    ensures layout { IfOk result (λ job. job.machine.shared.layout ≡ layout_of (line_as line.now)) }
+) -> Result<Job, Status>
+    requires { IsInLimits (asked_as asked) }
+    ensures ok { IfOk result (λ job. IsStarted (name_of F.told F.faults images.old images.new) (plain_intake elf.now order.now (asked_as asked))
+        (hart_turns (turns_of asked.harts job.items.items)) asked.regs job.machine) }
+    ensures there { IfOk result (λ job. AreThere asked.harts job.items.items) }
+    ensures layout { IfOk result (λ job. job.machine.shared.layout ≡ layout_of (asked_as asked)) }
     ensures going { IfOk result (λ job. job.machine.shared.reason ≡ None) }
-    ensures err { IfErr result (λ refusal. CauseOf (line_as line.now) (files_of F.told F.faults images.old images.new (line_as line.now)) refusal) }
+    ensures err { IfErr result (λ status. IsRefused (name_of F.told F.faults images.old images.new) (plain_intake elf.now order.now (asked_as asked)) status) }
 {
-    let file = read_all(alloc, images, line.elf)?;
-    let image = parse(alloc, file.as_slice(), line.pages)?;
-    let text = read_all(alloc, images, line.order)?;
-    let items = read_items(alloc, text.as_slice(), line.harts)?;
+    let file = read_file(alloc, images, elf)?;
+    let image = parse(alloc, file.as_slice(), asked.pages)?;
+    let text = read_file(alloc, images, order)?;
+    let items = read_order(alloc, text.as_slice(), asked.harts)?;
     let layout = Layout {
-        harts: line.harts,
-        pages: line.pages,
+        harts: asked.harts,
+        pages: asked.pages,
     };
-    let machine = PlainMachine::new(alloc, &image, file.as_slice(), layout, line.limit)?;
+    let machine = PlainMachine::new(alloc, &image, file.as_slice(), layout, asked.limit)?;
     Ok(Job { machine, items })
-}
-
-impl From<ReadErr> for Refusal {
-    ghost use Rattle.tlbvm.specs.Refused.{refusal_of_read};
-
-    ghost from_gives = { λ e r. r ≡ refusal_of_read e };
-
-    fn from(e: ReadErr) -> Refusal {
-        match e {
-            ReadErr::ReadFault => Refusal::ReadFault,
-            ReadErr::TooLong => Refusal::TooLong,
-            ReadErr::NoMemory => Refusal::NoMemory,
-        }
-    }
-}
-
-impl From<ImageErr> for Refusal {
-    ghost use Rattle.tlbvm.specs.Refused.{refusal_of_image};
-
-    ghost from_gives = { λ e r. r ≡ refusal_of_image e };
-
-    fn from(e: ImageErr) -> Refusal {
-        match e {
-            ImageErr::Bad(kind) => Refusal::BadImage(kind),
-            ImageErr::NoMemory => Refusal::NoMemory,
-        }
-    }
-}
-
-impl From<OrderErr> for Refusal {
-    ghost use Rattle.tlbvm.specs.Refused.{refusal_of_order};
-
-    ghost from_gives = { λ e r. r ≡ refusal_of_order e };
-
-    fn from(e: OrderErr) -> Refusal {
-        match e {
-            OrderErr::Bad(line) => Refusal::BadOrder(line),
-            OrderErr::NoMemory => Refusal::NoMemory,
-        }
-    }
-}
-
-impl From<NoMemory> for Refusal {
-    ghost use Rattle.tlbvm.specs.declared.start.Refusal.TheVariants.{NoMemory as no_memory};
-
-    ghost from_gives = { λ e r. r ≡ no_memory };
-
-    fn from(_: NoMemory) -> Refusal {
-        Refusal::NoMemory
-    }
 }

@@ -1,10 +1,13 @@
 // How a call ended: its exit code and its line.
 ghost use Rattle.std.specs.Prelude.{◌≡◌};
-ghost use Rattle.tlbvm.specs.Status.{exit_code_of, kind_number, status_text};
+ghost use Rattle.tlbvm.specs.Status.{exit_code_of, kind_number, status_for, status_text};
 
+use crate::items::OrderErr;
 use arrayvec::ArrayString;
-use elf_load::BadImage;
+use elf_load::{BadImage, ImageErr};
 use itoa::Buffer;
+use ref_machine::Reason;
+use vm_io::{NoMemory, ReadErr};
 
 /// How a call ended. Of the ends of a machine `Stopped` doesn't come yet: there are no scripts.
 #[derive(Clone, Copy, Debug, PartialEq, Eq)]
@@ -111,4 +114,69 @@ pub fn status_line(status: &Status) -> ArrayString<96>
         Status::Stopped => line.push_str("stopped"),
     }
     line
+}
+
+/// The status of a machine that ended with this first reason, or with none after its order's last turn.
+pub(crate) fn status_of(reason: Option<Reason>) -> Status
+    ensures { result ≡ status_for reason }
+{
+    match reason {
+        None => Status::OrderEnd,
+        Some(Reason::Pass) => Status::Done,
+        Some(Reason::Fail(code)) => Status::GuestFailed(code),
+        Some(Reason::Limit(hart)) => Status::Limit(hart),
+        Some(Reason::OutFull) => Status::OutFull,
+        Some(Reason::AllStopped) => Status::AllStopped,
+        Some(Reason::Stopped) => Status::Stopped,
+    }
+}
+
+impl From<ReadErr> for Status {
+    ghost use Rattle.tlbvm.specs.Refused.{status_of_read};
+
+    ghost from_gives = { λ e s. s ≡ status_of_read e };
+
+    fn from(e: ReadErr) -> Status {
+        match e {
+            ReadErr::ReadFault => Status::ReadFault,
+            ReadErr::TooLong => Status::TooLong,
+            ReadErr::NoMemory => Status::NoMemory,
+        }
+    }
+}
+
+impl From<ImageErr> for Status {
+    ghost use Rattle.tlbvm.specs.Refused.{status_of_image};
+
+    ghost from_gives = { λ e s. s ≡ status_of_image e };
+
+    fn from(e: ImageErr) -> Status {
+        match e {
+            ImageErr::Bad(kind) => Status::BadImage(kind),
+            ImageErr::NoMemory => Status::NoMemory,
+        }
+    }
+}
+
+impl From<OrderErr> for Status {
+    ghost use Rattle.tlbvm.specs.Refused.{status_of_order};
+
+    ghost from_gives = { λ e s. s ≡ status_of_order e };
+
+    fn from(e: OrderErr) -> Status {
+        match e {
+            OrderErr::Bad { line } => Status::BadOrder(line),
+            OrderErr::NoMemory => Status::NoMemory,
+        }
+    }
+}
+
+impl From<NoMemory> for Status {
+    ghost use Rattle.tlbvm.specs.declared.status.Status.TheVariants.{NoMemory as no_memory};
+
+    ghost from_gives = { λ e s. s ≡ no_memory };
+
+    fn from(_: NoMemory) -> Status {
+        Status::NoMemory
+    }
 }

@@ -1,68 +1,61 @@
 // The top call.
-ghost use Rattle.std.specs.Prelude.{◌≡◌, ◌↔◌, ℕ, Option, None, Some, IsTrue, map, string_bytes};
-ghost use Rattle.elf_load.specs.declared.image.BadImage.{BadImage as TheBadImage};
+ghost use Rattle.std.specs.Prelude.{◌≡◌, ◌↔◌, Option, None, Err, IsTrue, false, map, string_bytes};
 ghost use Rattle.machine_model.specs.declared.reason.Reason.{Reason as TheReason};
-ghost use Rattle.tlbvm.specs.Options.{line_of};
-ghost use Rattle.tlbvm.specs.Lines.{line_as, IsInLimits};
-ghost use Rattle.tlbvm.specs.Status.{status_for};
-ghost use Rattle.tlbvm.specs.Call.{call_of, written_of, GetsNothing, IsRefused, HasEnded, IsCutShort};
-ghost use Rattle.tlbvm.specs.Answers.{CauseOfStatus, IsComplete, IsCompleteImage, IsCompleteOrder, IsOneRun, OnLine, is_end, status_refused};
-ghost use Rattle.tlbvm.specs.declared.start.Refusal.{Refusal as TheRefusal};
+ghost use Rattle.tlbvm.specs.Options.{Plain, line_of};
+ghost use Rattle.tlbvm.specs.Lines.{asked_as, line_as, IsInLimits, IsLineInLimits};
+ghost use Rattle.tlbvm.specs.Status.{status_for, is_end, is_refusal};
+ghost use Rattle.tlbvm.specs.Call.{call_of, CameTo, HasEnded, IsCutShort, OnLine};
+ghost use Rattle.tlbvm.specs.Answers.{IsAnswered, IsComplete, IsOneRun};
 
 use crate::ending::write_end;
-use crate::options::{PlainLine, read_line};
-use crate::start::{Refusal, start};
-use crate::status::Status;
+use crate::options::{Asked, Line, read_line};
+use crate::start::start;
+use crate::status::{Status, status_of};
 use crate::taking::take_turns;
-use ref_machine::Reason;
 use std::alloc::Global;
 use vm_io::{Images, Sink};
-
-fn status_of(reason: Option<Reason>) -> Status
-    ensures { result ≡ status_for reason }
-{
-    match reason {
-        None => Status::OrderEnd,
-        Some(Reason::Pass) => Status::Done,
-        Some(Reason::Fail(code)) => Status::GuestFailed(code),
-        Some(Reason::Limit(hart)) => Status::Limit(hart),
-        Some(Reason::OutFull) => Status::OutFull,
-        Some(Reason::AllStopped) => Status::AllStopped,
-        Some(Reason::Stopped) => Status::Stopped,
-    }
-}
-
-fn status_refused(refusal: Refusal) -> Status
-    ensures { result ≡ status_refused refusal }
-{
-    match refusal {
-        Refusal::ReadFault => Status::ReadFault,
-        Refusal::TooLong => Status::TooLong,
-        Refusal::BadImage(kind) => Status::BadImage(kind),
-        Refusal::BadOrder(line) => Status::BadOrder(line),
-        Refusal::NoMemory => Status::NoMemory,
-    }
-}
 
 /// Does a `plain` line.
 fn plain<F: Images, O: Sink, L: Sink>(
     alloc: Global,
-    line: &PlainLine<'_>,
+    elf: &str,
+    order: &str,
+    asked: Asked,
     images: &mut F,
     out: &mut O,
     log: &mut L,
 ) -> Status
-    requires { IsInLimits (line_as line.now) }
-    ensures { CauseOfStatus result (call_of F.told F.faults O.taken O.faults L.taken L.faults images.old images.new out.old out.new log.old log.new (line_as line.now)) }
+    requires { IsInLimits (asked_as asked) }
+    ensures answered { IsAnswered result
+        (call_of F.told F.faults O.taken O.faults L.taken L.faults images.old images.new out.old out.new log.old log.new (Plain elf.now order.now (asked_as asked))) }
+    ensures untouched { is_end result ≡ false → (out.new ≡ out.old) × (log.new ≡ log.old) }
 {
-    let mut job = match start(alloc, line, images) {
+    let mut job = match start(alloc, elf, order, asked, images) {
         Ok(job) => job,
-        Err(refusal) => return status_refused(refusal),
+        Err(status) => return status,
     };
-    let reason = take_turns(&mut job.machine, line.harts, job.items.as_slice());
-    match write_end(&job.machine, reason, line.regs, out, log) {
+    let reason = take_turns(&mut job.machine, asked.harts, job.items.as_slice());
+    match write_end(&job.machine, reason, asked.regs, out, log) {
         Ok(()) => status_of(reason),
         Err(_) => Status::WriteFault,
+    }
+}
+
+/// Does a line by its command.
+fn run_line<F: Images, O: Sink, L: Sink>(
+    alloc: Global,
+    line: &Line<'_>,
+    images: &mut F,
+    out: &mut O,
+    log: &mut L,
+) -> Status
+    requires { IsLineInLimits (line_as line.now) }
+    ensures answered { IsAnswered result
+        (call_of F.told F.faults O.taken O.faults L.taken L.faults images.old images.new out.old out.new log.old log.new (line_as line.now)) }
+    ensures untouched { is_end result ≡ false → (out.new ≡ out.old) × (log.new ≡ log.old) }
+{
+    match *line {
+        Line::Plain { elf, order, asked } => plain(alloc, elf, order, asked, images, out, log),
     }
 }
 
@@ -71,7 +64,7 @@ fn plain<F: Images, O: Sink, L: Sink>(
 ///
 /// The lines that are built are those of `plain`: `plain ELF ORDER`, with the options `--harts N`, `--pages N`,
 /// `--limit N` and `--regs`. Checks are made in this order: the words, the read of ELF, the image, the read of ORDER,
-/// the order, the machine's memory; the first that fails answers, and then nothing was written. Want of memory comes
+/// the order, the machine's memory; the first that fails answers, and then no sink was called. Want of memory comes
 /// before the first turn only.
 pub fn tlbvm_still<F: Images, O: Sink, L: Sink>(
     alloc: Global,
@@ -83,72 +76,37 @@ pub fn tlbvm_still<F: Images, O: Sink, L: Sink>(
     // The headline: whenever the machine ends, its memory, registers and output are those of one run of the TLB-free
     // machine.
     ensures headline { IsTrue (is_end result) → OnLine
-        (call_of F.told F.faults O.taken O.faults L.taken L.faults images.old images.new out.old out.new log.old log.new) (map string_bytes words.now)
-        IsOneRun }
+        (call_of F.told F.faults O.taken O.faults L.taken L.faults images.old images.new out.old out.new log.old log.new)
+        (map string_bytes words.now) IsOneRun }
 
-    // Before the start: nothing is written.
+    // Before the start: no sink is called, and of words that are no line no file is read.
     ensures usage { (result ≡ Status.Usage) ↔ (line_of (map string_bytes words.now) ≡ None) }
-    ensures usage_writes { result ≡ Status.Usage →
-        GetsNothing (written_of O.taken O.faults out.old out.new) × GetsNothing (written_of L.taken L.faults log.old log.new) }
-    ensures read_fault { result ≡ Status.ReadFault → OnLine
-        (call_of F.told F.faults O.taken O.faults L.taken L.faults images.old images.new out.old out.new log.old log.new) (map string_bytes words.now)
-        (IsRefused TheRefusal.ReadFault) }
-    ensures too_long { result ≡ Status.TooLong → OnLine
-        (call_of F.told F.faults O.taken O.faults L.taken L.faults images.old images.new out.old out.new log.old log.new) (map string_bytes words.now)
-        (IsRefused TheRefusal.TooLong) }
-    ensures bad_image { (kind : TheBadImage) → result ≡ Status.BadImage kind → OnLine
-        (call_of F.told F.faults O.taken O.faults L.taken L.faults images.old images.new out.old out.new log.old log.new) (map string_bytes words.now)
-        (IsRefused (TheRefusal.BadImage kind)) }
-    ensures bad_order { (line : ℕ) → result ≡ Status.BadOrder line → OnLine
-        (call_of F.told F.faults O.taken O.faults L.taken L.faults images.old images.new out.old out.new log.old log.new) (map string_bytes words.now)
-        (IsRefused (TheRefusal.BadOrder line)) }
-    ensures no_memory { result ≡ Status.NoMemory → OnLine
-        (call_of F.told F.faults O.taken O.faults L.taken L.faults images.old images.new out.old out.new log.old log.new) (map string_bytes words.now)
-        (IsRefused TheRefusal.NoMemory) }
+    ensures usage_reads { result ≡ Status.Usage → images.new ≡ images.old }
+    ensures untouched { is_end result ≡ false → (out.new ≡ out.old) × (log.new ≡ log.old) }
 
-    // The run's first reason, or none behind the order's last turn; `out` has its output and `log` its report.
-    ensures done { result ≡ Status.Done → OnLine
-        (call_of F.told F.faults O.taken O.faults L.taken L.faults images.old images.new out.old out.new log.old log.new) (map string_bytes words.now)
-        (HasEnded (Some TheReason.Pass)) }
-    ensures order_end { result ≡ Status.OrderEnd → OnLine
-        (call_of F.told F.faults O.taken O.faults L.taken L.faults images.old images.new out.old out.new log.old log.new) (map string_bytes words.now)
-        (HasEnded None) }
-    ensures guest_failed { (code : ℕ) → result ≡ Status.GuestFailed code → OnLine
-        (call_of F.told F.faults O.taken O.faults L.taken L.faults images.old images.new out.old out.new log.old log.new) (map string_bytes words.now)
-        (HasEnded (Some (TheReason.Fail code))) }
-    ensures limit { (hart : ℕ) → result ≡ Status.Limit hart → OnLine
-        (call_of F.told F.faults O.taken O.faults L.taken L.faults images.old images.new out.old out.new log.old log.new) (map string_bytes words.now)
-        (HasEnded (Some (TheReason.Limit hart))) }
-    ensures out_full { result ≡ Status.OutFull → OnLine
-        (call_of F.told F.faults O.taken O.faults L.taken L.faults images.old images.new out.old out.new log.old log.new) (map string_bytes words.now)
-        (HasEnded (Some TheReason.OutFull)) }
-    ensures all_stopped { result ≡ Status.AllStopped → OnLine
-        (call_of F.told F.faults O.taken O.faults L.taken L.faults images.old images.new out.old out.new log.old log.new) (map string_bytes words.now)
-        (HasEnded (Some TheReason.AllStopped)) }
-    ensures stopped { result ≡ Status.Stopped → OnLine
-        (call_of F.told F.faults O.taken O.faults L.taken L.faults images.old images.new out.old out.new log.old log.new) (map string_bytes words.now)
-        (HasEnded (Some TheReason.Stopped)) }
+    // A file that is not read or not accepted: the first of the line's reads and checks that fails.
+    ensures refused { IsTrue (is_refusal result) → OnLine
+        (call_of F.told F.faults O.taken O.faults L.taken L.faults images.old images.new out.old out.new log.old log.new)
+        (map string_bytes words.now) (CameTo (Err result)) }
 
-    // A sink failed: what it took is a prefix of what was due, and `log` got nothing until `out` was whole.
+    // The run's first reason, or none after the order's last turn; `out` has its output and `log` its report.
+    ensures ended { (reason : Option TheReason) → result ≡ status_for reason → OnLine
+        (call_of F.told F.faults O.taken O.faults L.taken L.faults images.old images.new out.old out.new log.old log.new)
+        (map string_bytes words.now) (HasEnded reason) }
+
+    // A sink failed: what it took is a part of what was due, and `log` got nothing until `out` was whole.
     ensures write_fault { result ≡ Status.WriteFault → OnLine
-        (call_of F.told F.faults O.taken O.faults L.taken L.faults images.old images.new out.old out.new log.old log.new) (map string_bytes words.now)
-        IsCutShort }
+        (call_of F.told F.faults O.taken O.faults L.taken L.faults images.old images.new out.old out.new log.old log.new)
+        (map string_bytes words.now) IsCutShort }
 
-    // A file without faults that isn't accepted is refused for its own fault, and so is an order; or there was no memory.
-    ensures complete_image { OnLine
-        (call_of F.told F.faults O.taken O.faults L.taken L.faults images.old images.new out.old out.new log.old log.new) (map string_bytes words.now)
-        (IsCompleteImage result) }
-    ensures complete_order { OnLine
-        (call_of F.told F.faults O.taken O.faults L.taken L.faults images.old images.new out.old out.new log.old log.new) (map string_bytes words.now)
-        (IsCompleteOrder result) }
-
-    // Files without faults that are accepted, and sinks that take all, lead to the machine's end or want of memory.
+    // Files without faults lead to the answer that is theirs, or to want of memory: a file that isn't accepted to its own
+    // refusal, others to the machine's end, where both sinks take all.
     ensures complete { OnLine
-        (call_of F.told F.faults O.taken O.faults L.taken L.faults images.old images.new out.old out.new log.old log.new) (map string_bytes words.now)
-        (IsComplete result) }
+        (call_of F.told F.faults O.taken O.faults L.taken L.faults images.old images.new out.old out.new log.old log.new)
+        (map string_bytes words.now) (IsComplete result) }
 {
     match read_line(words) {
-        Some(line) => plain(alloc, &line, images, out, log),
+        Some(line) => run_line(alloc, &line, images, out, log),
         None => Status::Usage,
     }
 }

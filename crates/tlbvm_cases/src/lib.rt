@@ -11,6 +11,8 @@ mod faults;
 #[cfg(test)]
 mod guests;
 #[cfg(test)]
+mod items;
+#[cfg(test)]
 mod lines;
 #[cfg(test)]
 mod linked;
@@ -30,5 +32,7 @@ mod stores;
 mod supervisor;
 #[cfg(test)]
 mod whole;
+#[cfg(test)]
+mod words;
 #[cfg(test)]
 mod worked;

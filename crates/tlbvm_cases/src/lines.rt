@@ -3,7 +3,7 @@ use clap::{Arg, ArgAction, ArgMatches, Command, value_parser};
 use std::alloc::{AllocError, Global};
 use std::process::Abort;
 use std::test::Fail;
-use tlbvm::read_line;
+use tlbvm::{Line, read_line};
 
 /// What a line says: ELF, ORDER, harts, pages, limit and regs.
 type Said<'a> = (&'a str, &'a str, u8, u32, u64, bool);
@@ -161,9 +161,14 @@ fn said_by<'a>(matches: &ArgMatches<'a>) -> Option<Said<'a>> {
 }
 
 fn said_here<'a>(words: &'a [String]) -> Option<Said<'a>> {
-    let line = read_line(words)?;
+    let Line::Plain { elf, order, asked } = read_line(words)?;
     Some((
-        line.elf, line.order, line.harts, line.pages, line.limit, line.regs,
+        elf,
+        order,
+        asked.harts,
+        asked.pages,
+        asked.limit,
+        asked.regs,
     ))
 }
 

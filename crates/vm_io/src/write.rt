@@ -1,5 +1,5 @@
 // Writes a run of bytes whole, piece by piece, and says how far it came where it could not.
-ghost use Rattle.std.specs.Prelude.{◌≡◌, ℕ, ◌≤◌, length, take, IfErr, OnOk, OnErr};
+ghost use Rattle.std.specs.Prelude.{◌≡◌, ℕ, ◌<◌, ◌≤◌, length, take, IfErr, OnOk, OnErr};
 ghost use Rattle.std.specs.Io.KnownBytes.{Appends};
 ghost use Rattle.vm_io.specs.Faults.{Rose};
 
@@ -21,10 +21,10 @@ pub struct WriteFault {
 ///
 /// # Errors
 ///
-/// `WriteFault` where a write failed, with the number of bytes that were taken before.
+/// `WriteFault` where a write failed, with the number of bytes that were taken before: not all.
 pub fn write_all<S: Sink>(sink: &mut S, bytes: &[u8]) -> Result<(), WriteFault>
     ensures ok { OnOk result (Appends (S.taken sink.old) (S.taken sink.new) bytes.now) }
-    ensures fault { IfErr result (λ f. (f.written ≤ length bytes.now) ×
+    ensures fault { IfErr result (λ f. (f.written < length bytes.now) ×
         Appends (S.taken sink.old) (S.taken sink.new) (take f.written bytes.now)) }
     ensures cause { OnErr result (Rose (S.faults sink.old) (S.faults sink.new)) }
     ensures grows { S.faults sink.old ≤ S.faults sink.new }

@@ -1,22 +1,31 @@
 // What one operand or option adds to what was read.
-ghost use Rattle.std.specs.Prelude.{◌≡◌, ◌+◌, ◌^◌, ◌<◌, ◌≤◌, IfSome};
+ghost use Rattle.std.specs.Prelude.{◌≡◌, ◌≤◌, IfSome};
 ghost use Rattle.std.specs.Option.{option_map};
-ghost use Rattle.tlbvm.specs.Options.{number_between, shown, with_operand, with_regs, with_value};
+ghost use Rattle.tlbvm.specs.Lines.{shown};
+ghost use Rattle.tlbvm.specs.Options.{nothing, number_between, with_operand, with_regs, with_value};
 
 use crate::options::seen::Seen;
+use arrayvec::ArrayVec;
 use text_lines::read_number;
 
-/// The first operand is the ELF file, the second the order.
+/// What is read before the first word.
+pub(crate) fn nothing<'a>() -> Seen<'a>
+    ensures { shown result ≡ nothing }
+{
+    Seen {
+        operands: ArrayVec::new(),
+        harts: None,
+        pages: None,
+        limit: None,
+        regs: false,
+    }
+}
+
+/// An operand more, where there is room.
 pub(crate) fn with_operand<'a>(mut seen: Seen<'a>, word: &'a str) -> Option<Seen<'a>>
     ensures { option_map shown result ≡ with_operand word.now (shown seen.entry) }
 {
-    if seen.elf.is_none() {
-        seen.elf = Some(word);
-    } else if seen.order.is_none() {
-        seen.order = Some(word);
-    } else {
-        return None;
-    }
+    seen.operands.try_push(word).ok()?;
     Some(seen)
 }
 
@@ -31,7 +40,6 @@ pub(crate) fn with_regs(mut seen: Seen<'_>) -> Option<Seen<'_>>
 }
 
 fn number_between(text: &str, least: u64, most: u64) -> Option<u64>
-    requires { most + 1 < 2 ^ 60 }
     ensures value { result ≡ number_between least most text.now }
     ensures within { IfSome result (λ n. (least ≤ n) × (n ≤ most)) }
 {

@@ -1,34 +1,36 @@
 use Rattle.std.proofs.Common.{◌+◌, ◌*◌, ◌-◌, arith, refl}
 use Rattle.step_laws.specs.Map.{Size}
-use Rattle.guest_ram.proofs.Moves.{booting_took, stored_took, stored_goes, goes_step, goes_then, goes_at_most}
+use Rattle.guest_ram.specs.Areas.{AnyWord}
+use Rattle.guest_ram.specs.Ports.{GoesBy}
+use Rattle.guest_ram.proofs.Moves.{booting_adds, stored_adds, stored_goes, goes_step, goes_then, goes_at_most}
 use Rattle.guest_ram_cases.proofs.Slots.{hart_goes, clears_goes, clears_more, none_clear}
 use Rattle.guest_ram_cases.proofs.booting.boot_table.Goals as goal
 
 pub loop-slot-init : goal.loop-slot-init
-loop-slot-init g c = let made = c.store.ensures.step in let name = c.size_word.ensures.name in record {
-  booting = booting_took _ _ _ _ _ (Size c.args.hart) made name (λ _. refl) c.requires.booting;
-  hart = hart_goes 1 _ _ c.args.hart (goes_step _ _ _ _ _ _ made) c.requires.hart;
-  size = stored_took _ _ _ _ _ (Size c.args.hart) made name;
-  clear = none_clear c.args.hart 0 _;
-  goes = goes_step _ _ _ _ _ _ made;
+loop-slot-init g c = let made = c.store.ensures in let name = c.size_word.ensures.name in let goes : GoesBy 1 AnyWord (g.P.Look.shows c.args.port.now) (g.P.Look.shows c.store.new.self) = goes_step AnyWord _ _ _ _ _ _ (Size c.args.hart) made.step made.allowed name tt in record {
+  booting = booting_adds _ _ _ _ _ (Size c.args.hart) made.step name (λ _. refl) c.requires.booting;
+  hart = hart_goes 1 _ _ c.args.hart goes c.requires.hart;
+  size = stored_adds _ _ _ _ _ (Size c.args.hart) made.step name;
+  clear = none_clear c.args.hart 0 (g.P.Look.shows c.store.new.self).own.steps;
+  goes = goes;
 }
 
 pub loop-slot-preserved : goal.loop-slot-preserved
 loop-slot-preserved g c = let before = c.loop-slot.invariant in let made = c.clear_slot.ensures in record {
   booting = made.booting;
   hart = hart_goes 3 _ _ c.args.hart made.goes before.hart;
-  size = stored_goes 3 _ _ (Size c.args.hart) made.goes before.size;
+  size = stored_goes 3 AnyWord _ _ (Size c.args.hart) made.goes before.size;
   clear = clears_more 3 _ _ c.args.hart 0 c.loop-slot.slot made.goes before.clear made.clear;
-  goes = goes_at_most (1 + 3 * c.loop-slot.slot + 3) _ _ _ (omega arith) (goes_then (1 + 3 * c.loop-slot.slot) 3 _ _ _ before.goes made.goes);
+  goes = goes_at_most (1 + 3 * c.loop-slot.slot + 3) _ AnyWord _ _ (omega arith) (goes_then (1 + 3 * c.loop-slot.slot) 3 AnyWord _ _ _ before.goes made.goes);
 }
 
 pub loop-victim-preserved : goal.loop-victim-preserved
 loop-victim-preserved g c = let before = c.loop-victim.invariant in let made = c.clear_slot-in-loop-victim.ensures in let v = c.loop-victim.victim in record {
   booting = made.booting;
   hart = hart_goes 3 _ _ c.args.hart made.goes before.hart;
-  size = stored_goes 3 _ _ (Size c.args.hart) made.goes before.size;
+  size = stored_goes 3 AnyWord _ _ (Size c.args.hart) made.goes before.size;
   main = clears_goes 3 _ _ c.args.hart 0 64 made.goes before.main;
   from = omega arith;
   clear = clears_more 3 _ _ c.args.hart 1024 v made.goes before.clear made.clear;
-  goes = goes_at_most (193 + 3 * (v - 1024) + 3) _ _ _ (omega (arith, before.from)) (goes_then (193 + 3 * (v - 1024)) 3 _ _ _ before.goes made.goes);
+  goes = goes_at_most (193 + 3 * (v - 1024) + 3) _ AnyWord _ _ (omega (arith, before.from)) (goes_then (193 + 3 * (v - 1024)) 3 AnyWord _ _ _ before.goes made.goes);
 }

@@ -1,47 +1,50 @@
 use Rattle.std.proofs.Common.{ℕ, ◌<◌, ◌+◌, ◌*◌, ◌∙◌, sym, ap, subst, arith, refl}
 use Rattle.step_laws.specs.declared.words.Layout.{Layout}
 use Rattle.step_laws.specs.Map.{Live, Hsm}
-use Rattle.guest_ram.proofs.MaySteps.{may_boot_state}
-use Rattle.guest_ram.proofs.Moves.{booting_took, stored_took, stored_goes, goes_step, goes_then, goes_at_most}
+use Rattle.guest_ram.specs.Areas.{AnyWord}
+use Rattle.guest_ram.proofs.MaySteps.{may_boot_hsm}
+use Rattle.guest_ram.specs.Ports.{GoesBy}
+use Rattle.guest_ram.proofs.Moves.{booting_adds, stored_adds, stored_goes, goes_step, goes_then, goes_at_most}
 use Rattle.guest_ram_cases.proofs.Slots.{layout_goes, stopped_goes, stopped_more, booted_more}
 use Rattle.guest_ram_cases.proofs.booting.boot_words.Goals as goal
 
 pub loop-stopped-init : goal.loop-stopped-init
-loop-stopped-init g c = let made = c.store.ensures.step in let name = c.live_word.ensures.name in record {
-  booting = booting_took _ _ _ _ _ Live made name (λ _. refl) c.requires.booting;
-  harts = ap (λ (l : Layout). l.harts) (c.layout-harts.ensures.layout ∙ sym (layout_goes 1 _ _ (goes_step _ _ _ _ _ _ made)));
-  live = stored_took _ _ _ _ _ Live made name;
+loop-stopped-init g c = let made = c.store.ensures in let name = c.live_word.ensures.name in let goes : GoesBy 1 AnyWord (g.P.Look.shows c.args.port.now) (g.P.Look.shows c.store.new.self) = goes_step AnyWord _ _ _ _ _ _ Live made.step made.allowed name tt in record {
+  booting = booting_adds _ _ _ _ _ Live made.step name (λ _. refl) c.requires.booting;
+  harts = ap (λ (l : Layout). l.harts) (c.layout-harts.ensures.layout ∙ sym (layout_goes 1 _ _ goes));
+  live = stored_adds _ _ _ _ _ Live made.step name;
   from = omega arith;
   stopped = λ h least less. absurd (omega arith);
-  goes = goes_step _ _ _ _ _ _ made;
+  goes = goes;
 }
 
 pub store-requires-in-loop-stopped-clause-may : goal.store-requires-in-loop-stopped-clause-may
 store-requires-in-loop-stopped-clause-may g c = let before = c.loop-stopped.invariant in
-    may_boot_state _ _ c.loop-stopped.stopped c.hsm_word.ensures.name before.booting before.from (subst (λ n. c.loop-stopped.stopped < n) before.harts (omega arith))
+    may_boot_hsm _ _ c.loop-stopped.stopped c.hsm_word.ensures.name before.booting before.from (subst (λ n. c.loop-stopped.stopped < n) before.harts (omega arith))
 
 pub loop-stopped-preserved : goal.loop-stopped-preserved
-loop-stopped-preserved g c = let before = c.loop-stopped.invariant in let made = c.store-in-loop-stopped.ensures.step in let name = c.hsm_word.ensures.name in let n = c.loop-stopped.stopped in record {
-  booting = booting_took _ _ _ _ _ (Hsm n) made name (λ _. refl) before.booting;
-  harts = before.harts ∙ ap (λ (l : Layout). l.harts) (sym (layout_goes 1 _ _ (goes_step _ _ _ _ _ _ made)));
-  live = stored_goes 1 _ _ Live (goes_step _ _ _ _ _ _ made) before.live;
-  from = omega arith;
-  stopped = stopped_more 1 _ _ n (goes_step _ _ _ _ _ _ made) before.stopped (stored_took _ _ _ _ _ (Hsm n) made name);
-  goes = goes_then n 1 _ _ _ before.goes (goes_step _ _ _ _ _ _ made);
-}
+loop-stopped-preserved g c = let before = c.loop-stopped.invariant in let made = c.store-in-loop-stopped.ensures in let name = c.hsm_word.ensures.name in let n = c.loop-stopped.stopped in
+    let goes : GoesBy 1 AnyWord (g.P.Look.shows c.loop-stopped.port) (g.P.Look.shows c.store-in-loop-stopped.new.self) = goes_step AnyWord _ _ _ _ _ _ (Hsm n) made.step made.allowed name tt in record {
+      booting = booting_adds _ _ _ _ _ (Hsm n) made.step name (λ _. refl) before.booting;
+      harts = before.harts ∙ ap (λ (l : Layout). l.harts) (sym (layout_goes 1 _ _ goes));
+      live = stored_goes 1 AnyWord _ _ Live goes before.live;
+      from = omega arith;
+      stopped = stopped_more 1 _ _ n goes before.stopped (stored_adds _ _ _ _ _ (Hsm n) made.step name);
+      goes = goes_then n 1 AnyWord _ _ _ before.goes goes;
+    }
 
 pub loop-hart-preserved : goal.loop-hart-preserved
 loop-hart-preserved g c = let before = c.loop-hart.invariant in let made = c.boot_table.ensures in let n = c.loop-hart.hart in record {
   booting = made.booting;
   harts = before.harts ∙ ap (λ (l : Layout). l.harts) (sym (layout_goes 217 _ _ made.goes));
-  live = stored_goes 217 _ _ Live made.goes before.live;
+  live = stored_goes 217 AnyWord _ _ Live made.goes before.live;
   stopped = stopped_goes 217 _ _ c.layout-harts.result.harts made.goes before.stopped;
   booted = booted_more 217 _ _ n made.goes before.booted made.booted;
-  goes = goes_at_most (8 + 217 * n + 217) _ _ _ (omega arith) (goes_then (8 + 217 * n) 217 _ _ _ before.goes made.goes);
+  goes = goes_at_most (8 + 217 * n + 217) _ AnyWord _ _ (omega arith) (goes_then (8 + 217 * n) 217 AnyWord _ _ _ before.goes made.goes);
 }
 
 pub returns-clause-booted : goal.returns-clause-booted
-returns-clause-booted g c = let at = c.loop-hart.invariant in let all : (h : ℕ) → h < (g.P.Look.shows c.loop-hart.port).layout.harts → h < c.loop-hart.hart = λ h less. omega (arith, at.harts, less) in record {
+returns-clause-booted g c = let at = c.loop-hart.invariant in let all : (h : ℕ) → h < (g.P.Look.shows c.loop-hart.port).machine.layout.harts → h < c.loop-hart.hart = λ h less. omega (arith, at.harts, less) in record {
   live = at.live;
   states = λ h least less. at.stopped h least (subst (λ n. h < n) (sym at.harts) less);
   sizes = λ h less. (at.booted h (all h less)).size;

@@ -1,6 +1,7 @@
 use Rattle.std.proofs.Common.{◌≡◌, ◌≤◌, ◌+◌, ◌*◌, true}
 use Rattle.step_laws.specs.Map.{Live}
-use Rattle.step_laws.specs.Record.{stored}
+use Rattle.step_laws.specs.Loader.{is_stored}
+use Rattle.guest_ram.specs.Areas.{AnyWord}
 use Rattle.guest_ram.specs.Ports.{IsBooting, GoesBy}
 use Rattle.guest_ram_cases.proofs.Slots.{AreStopped, AreBooted}
 use Rattle.guest_ram_cases.proofs.booting.boot_words.Given as goal
@@ -8,19 +9,19 @@ use Rattle.guest_ram_cases.proofs.booting.boot_words.Given as goal
 abbrev pub invariant-loop-stopped : goal.invariant-loop-stopped
 invariant-loop-stopped g l = record {
   booting : IsBooting (g.P.Look.shows l.port);
-  harts : l.harts ≡ (g.P.Look.shows l.port).layout.harts;
-  live : stored Live (g.P.Look.shows l.port).own.steps ≡ true;
+  harts : l.harts ≡ (g.P.Look.shows l.port).machine.layout.harts;
+  live : is_stored Live (g.P.Look.shows l.port).own.steps ≡ true;
   from : 1 ≤ l.stopped;
   stopped : AreStopped l.stopped (g.P.Look.shows l.port).own.steps;
-  goes : GoesBy l.stopped (g.P.Look.shows l.fn.port) (g.P.Look.shows l.port);
+  goes : GoesBy l.stopped AnyWord (g.P.Look.shows l.fn.port) (g.P.Look.shows l.port);
 }
 
 abbrev pub invariant-loop-hart : goal.invariant-loop-hart
 invariant-loop-hart g l = record {
   booting : IsBooting (g.P.Look.shows l.port);
-  harts : l.harts ≡ (g.P.Look.shows l.port).layout.harts;
-  live : stored Live (g.P.Look.shows l.port).own.steps ≡ true;
+  harts : l.harts ≡ (g.P.Look.shows l.port).machine.layout.harts;
+  live : is_stored Live (g.P.Look.shows l.port).own.steps ≡ true;
   stopped : AreStopped l.harts (g.P.Look.shows l.port).own.steps;
   booted : AreBooted l.hart (g.P.Look.shows l.port).own.steps;
-  goes : GoesBy (8 + 217 * l.hart) (g.P.Look.shows l.fn.port) (g.P.Look.shows l.port);
+  goes : GoesBy (8 + 217 * l.hart) AnyWord (g.P.Look.shows l.fn.port) (g.P.Look.shows l.port);
 }

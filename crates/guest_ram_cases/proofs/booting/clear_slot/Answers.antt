@@ -1,5 +1,8 @@
+use Rattle.guest_ram.specs.Areas.{AnyWord}
 use Rattle.guest_ram.proofs.Moves.{goes_step, goes_then}
 use Rattle.guest_ram_cases.proofs.booting.clear_slot.Goals as goal
 
 pub returns-clause-goes : goal.returns-clause-goes
-returns-clause-goes g c = goes_then 2 1 _ _ _ (goes_then 1 1 _ _ _ (goes_step _ _ _ _ _ _ c.store.ensures.step) (goes_step _ _ _ _ _ _ c.store-2.ensures.step)) (goes_step _ _ _ _ _ _ c.store-3.ensures.step)
+returns-clause-goes g c = goes_then 2 1 AnyWord _ _ _
+    (goes_then 1 1 AnyWord _ _ _ (goes_step AnyWord _ _ _ _ _ _ _ c.store.ensures.step c.store.ensures.allowed c.tlb_word.ensures.name tt) (goes_step AnyWord _ _ _ _ _ _ _ c.store-2.ensures.step c.store-2.ensures.allowed c.tlb_word-2.ensures.name tt))
+    (goes_step AnyWord _ _ _ _ _ _ _ c.store-3.ensures.step c.store-3.ensures.allowed c.tlb_word-3.ensures.name tt)

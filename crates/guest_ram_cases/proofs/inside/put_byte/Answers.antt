@@ -1,16 +1,18 @@
-use Rattle.std.proofs.Common.{◌∙◌, refl, arith}
+use Rattle.std.proofs.Common.{◌∙◌, refl, arith, inl}
 use Rattle.step_laws.specs.declared.steps.WordOp.TheVariants.{Add}
+use Rattle.guest_ram.specs.Areas.{IsOfOutput}
 use Rattle.guest_ram.proofs.MaySteps.{may_print}
-use Rattle.guest_ram.proofs.Moves.{acting_took, phase_took, draws_place, goes_step, goes_then, goes_at_most}
+use Rattle.guest_ram.proofs.Moves.{acting_adds, phase_adds, draws_place, goes_step, goes_then, goes_at_most}
 use Rattle.guest_ram_cases.proofs.inside.put_byte.Goals as goal
 
 pub store-requires-clause-may : goal.store-requires-clause-may
 store-requires-clause-may g c = let made = c.fetch_add-place.ensures.step in let name = c.cons_word.ensures.name in
-    may_print _ _ _ _ c.console_word.ensures.name (acting_took _ _ _ _ _ Add _ made name (λ _. refl) c.requires.acting)
-    (phase_took _ _ _ _ _ Add _ made name ∙ c.requires.inside) (draws_place _ _ _ _ _ made name) (omega arith, omega arith)
+    may_print _ _ _ _ c.console_word.ensures.name (acting_adds _ _ _ _ _ Add _ made name (λ _. refl) c.requires.acting)
+    (inl (phase_adds _ _ _ _ _ Add _ made name ∙ c.requires.inside)) (draws_place _ _ _ _ _ made name) (omega arith, omega arith)
 
 pub returns-then-place-from-clause-goes : goal.returns-then-place-from-clause-goes
-returns-then-place-from-clause-goes g c = goes_at_most 1 2 _ _ (omega arith) (goes_step _ _ _ _ _ _ c.fetch_add-place.ensures.step)
+returns-then-place-from-clause-goes g c = goes_at_most 1 2 IsOfOutput _ _ (omega arith) (goes_step IsOfOutput _ _ _ _ _ _ _ c.fetch_add-place.ensures.step c.fetch_add-place.ensures.allowed c.cons_word.ensures.name tt)
 
 pub returns-clause-goes : goal.returns-clause-goes
-returns-clause-goes g c = goes_then 1 1 _ _ _ (goes_step _ _ _ _ _ _ c.fetch_add-place.ensures.step) (goes_step _ _ _ _ _ _ c.store.ensures.step)
+returns-clause-goes g c = goes_then 1 1 IsOfOutput _ _ _ (goes_step IsOfOutput _ _ _ _ _ _ _ c.fetch_add-place.ensures.step c.fetch_add-place.ensures.allowed c.cons_word.ensures.name tt)
+    (goes_step IsOfOutput _ _ _ _ _ _ _ c.store.ensures.step c.store.ensures.allowed c.console_word.ensures.name tt)

@@ -1,5 +1,5 @@
 use Rattle.std.proofs.Common.{◌≡◌}
-use Rattle.step_laws.specs.Record.{phase, inside}
+use Rattle.step_laws.specs.Sections.{phase, inside}
 use Rattle.guest_ram.specs.Ports.{IsActing}
 use Rattle.ram_steps.proofs.ports.loaded.Given as goal
 

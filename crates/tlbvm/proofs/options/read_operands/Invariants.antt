@@ -1,6 +1,7 @@
 -- The words that are left say what all the words said.
 use Rattle.std.proofs.Common.{◌≡◌, map, drop, string_bytes}
-use Rattle.tlbvm.specs.Options.{after_operands, shown}
+use Rattle.tlbvm.specs.Options.{after_operands}
+use Rattle.tlbvm.specs.Lines.{shown}
 use Rattle.tlbvm.proofs.options.read_operands.Given as goal
 
 abbrev pub invariant-loop-word : goal.invariant-loop-word

@@ -1,0 +1,19 @@
+-- The steps on hart states.
+use Rattle.std.specs.Prelude.{◌≡◌, ℕ, ◌-◌, ◌^◌}
+use Rattle.step_laws.specs.declared.steps.WordOp.TheVariants.{Load, Store, Add, Exchange}
+use Rattle.step_laws.specs.Map.{Hsm, Live, Opaque, Start, number_of}
+use Rattle.guest_ram.specs.Ports.{Shown, after_step}
+
+-- the hart was found stopped, and given where to start and what; LIVE was raised before it may go
+abbrev pub HasStarted : Shown → (target at opaque : ℕ) → Shown → Type 0
+HasStarted p t at opaque q = (live : ℕ) × (q ≡ after_step (after_step (after_step (after_step (after_step p (number_of (Hsm t)) (Exchange 1) 3 1) (number_of (Start t)) Store at 0)
+    (number_of (Opaque t)) Store opaque 0) (number_of Live) Add 1 live) (number_of (Hsm t)) Store 2 0)
+
+-- the hart stopped, and took itself from LIVE, which was so many
+abbrev pub HasStopped : Shown → (left : ℕ) → Shown → Type 0
+HasStopped p left q = q ≡ after_step (after_step p (number_of (Hsm p.own.actor)) Store 1 0) (number_of Live) Add (2 ^ 64 - 1) left
+
+-- the hart was found called, loaded its START and OPAQUE, and runs
+abbrev pub HasBegun : Shown → (at opaque : ℕ) → Shown → Type 0
+HasBegun p at opaque q = q ≡ after_step (after_step (after_step (after_step p (number_of (Hsm p.own.actor)) Load 0 2) (number_of (Start p.own.actor)) Load 0 at) (number_of (Opaque p.own.actor)) Load 0 opaque)
+    (number_of (Hsm p.own.actor)) Store 0 0
