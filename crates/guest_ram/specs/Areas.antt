@@ -1,5 +1,5 @@
 -- Areas of words, for what a call may touch.
-use Rattle.step_laws.specs.Map.{Word, Pend, Stop, Live, Cons, Run, Lock, Size, Hsm, Start, Opaque, Place, Dirty, Tlb, Console, Ram}
+use Rattle.step_laws.specs.Map.{Word, Pend, Stop, Live, Cons, Ipi, Run, Kick, Done, Lock, Size, Hsm, Start, Opaque, Place, Dirty, Tlb, Console, Ram}
 
 -- every word
 abbrev pub AnyWord : Word → Type 0
@@ -62,3 +62,28 @@ IsOfStates (Hsm h) = Unit {0}
 IsOfStates (Start h) = Unit {0}
 IsOfStates (Opaque h) = Unit {0}
 IsOfStates _ = ⊥
+
+-- what a target serves requests with: places, and the locks and words of TLBs
+abbrev pub IsOfService : Word → Type 0
+IsOfService (Place t s k) = Unit {0}
+IsOfService w = IsOfTable w
+
+-- what harts call each other with: interrupts, and calls to leave
+abbrev pub IsOfCalls : Word → Type 0
+IsOfCalls Ipi = Unit {0}
+IsOfCalls (Kick a) = Unit {0}
+IsOfCalls _ = ⊥
+
+-- the machine's end
+abbrev pub IsOfEnd : Word → Type 0
+IsOfEnd Stop = Unit {0}
+IsOfEnd (Done a) = Unit {0}
+IsOfEnd _ = ⊥
+
+-- every word but those that requests are served with
+abbrev pub IsApart : Word → Type 0
+IsApart (Place t s k) = ⊥
+IsApart (Lock h) = ⊥
+IsApart (Size h) = ⊥
+IsApart (Tlb h j f) = ⊥
+IsApart _ = Unit {0}

@@ -1,5 +1,5 @@
 -- What steps on the own lock and table do to the record.
-use Rattle.std.proofs.Common.{◌≡◌, ◌≢◌, ℕ, suc, ◌%◌, ◌<◌, Bool, true, false, refl, sym, ap, subst, ◌∙◌, inl}
+use Rattle.std.proofs.Common.{◌≡◌, ◌≢◌, ℕ, suc, ◌%◌, ◌<◌, Bool, true, false, true≢false, refl, sym, ap, subst, ◌∙◌, inl}
 use Rattle.std.specs.Prelude.{◌⊎◌, ◌==◌, ◌&&◌, if◌then◌else◌}
 use Rattle.step_laws.specs.declared.map.TlbField.{TlbField}
 use Rattle.step_laws.specs.declared.map.TlbField.TheVariants.{Write, Page}
@@ -56,6 +56,18 @@ module _ (p q : Shown) (word own slot arg : ℕ) (f : TlbField) (s : IsFilling p
   filled_word = ap (λ (x : Shown). table_word (Tlb x.own.actor slot f) q.own.steps) made
       ∙ fold_adds (table_next (Tlb p.own.actor slot f)) (table_boot (Tlb p.own.actor slot f)) p q word arg 0 Store (Tlb p.own.actor slot f) made (e ∙ ap (λ a. Tlb a slot f) s.own_is)
       ∙ ap (λ (t : Bool). if t then arg else table_word (Tlb p.own.actor slot f) p.own.steps) (same_refl (Tlb p.own.actor slot f))
+
+  -- PAGE stays where another word of the slot is stored
+  pub page_still : same_field Page f ≡ false → table_word (Tlb q.own.actor slot Page) q.own.steps ≡ table_word (Tlb p.own.actor slot Page) p.own.steps
+  page_still other = ap (λ (x : Shown). table_word (Tlb x.own.actor slot Page) q.own.steps) made
+      ∙ fold_adds (table_next (Tlb p.own.actor slot Page)) (table_boot (Tlb p.own.actor slot Page)) p q word arg 0 Store (Tlb own slot f) made e
+      ∙ by (p.own.actor == own) (slot == slot) (same_field Page f) other
+    where
+      by : (t u v : Bool) → v ≡ false → (if t && (u && v) then arg else table_word (Tlb p.own.actor slot Page) p.own.steps) ≡ table_word (Tlb p.own.actor slot Page) p.own.steps
+      by true true false n = refl
+      by true false v n = refl
+      by false u v n = refl
+      by true true true n = absurd (true≢false n)
 
   due_still : (j : ℕ) (g : TlbField) (b : Bool) → b ≡ false → is_clear_due_next p.own.actor j g (Tlb own slot f) Store arg (size_of p.own.actor p.own.steps) b ≡ false
   due_still j g b e = by ((own == p.own.actor) && ((j == slot) && same_field g f)) (arg == 1)

@@ -1,7 +1,7 @@
 pub mod Rows
 pub mod Slots
 pub mod Marks
-pub mod Seats
+pub mod Leading
 pub mod Looks
 pub mod Passes
 pub mod Filled
@@ -11,3 +11,9 @@ pub mod Starts
 pub mod Swept
 pub mod Writes
 pub mod Acks
+pub mod Drains
+pub mod Snapshots
+pub mod Turns
+pub mod LoaderRuns
+pub mod SeatsMade
+pub mod Aside

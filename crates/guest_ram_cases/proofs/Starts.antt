@@ -1,15 +1,17 @@
 -- How the steps of a start and of a stop move what the record says.
-use Rattle.std.proofs.Common.{◌≡◌, ◌≢◌, ℕ, zero, suc, Bool, true, false, refl, sym, ap, ◌∙◌}
+use Rattle.std.proofs.Common.{◌≡◌, ◌≢◌, ◌<◌, ℕ, zero, suc, subst, Bool, true, false, refl, sym, ap, ◌∙◌}
 use Rattle.std.specs.Prelude.{if◌then◌else◌}
-use Rattle.std.proofs.lemmas.Bool.{eq-eqb}
+use Rattle.std.proofs.lemmas.Bool.{eq-eqb, ne_eqb}
 use Rattle.step_laws.specs.declared.steps.WordOp.{WordOp}
 use Rattle.step_laws.specs.declared.steps.WordOp.TheVariants.{Load, Store, Add, Exchange}
 use Rattle.step_laws.specs.Map.{Word, Live, Hsm, Start, Opaque, name_of}
-use Rattle.step_laws.specs.Harts.{closed, opened, placed, handed, counted, opening, opening_next, is_owing, is_owing_next, is_running, is_running_next, Taking, idle, called, with_start, with_both, call_of, taking, taking_next}
+use Rattle.step_laws.specs.Harts.{Opening, closed, opened, placed, handed, counted, opening, opening_next, is_owing, is_owing_next, is_running, is_running_next, Taking, idle, called, with_start, with_both, call_of, taking, taking_next}
 use Rattle.step_laws.specs.Discipline.{minus_one}
 use Rattle.guest_ram.specs.Ports.{Shown, Adds, May, IsActing}
 use Rattle.guest_ram.proofs.MaySteps.{may_load_start, may_load_opaque, may_take_start}
 use Rattle.guest_ram.proofs.Moves.{fold_adds, acting_adds}
+use Rattle.step_laws.specs.Output.{is_finished_next}
+use Rattle.guest_ram_cases.specs.States.{IsAtRest, IsHart}
 
 opening_took : (p q : Shown) (word arg answer : ℕ) (op : WordOp) (w : Word) → Adds p q word op arg answer → name_of word ≡ w → opening q.own.steps ≡ opening_next w op arg answer (opening p.own.steps)
 opening_took p q word arg answer op w made e = fold_adds opening_next closed p q word arg answer op w made e
@@ -129,3 +131,63 @@ module _ (p q r u : Shown) (state start opaque a n m k : ℕ) (acting : IsActing
     pub may_take_state : Adds r u opaque Load 0 k → May u state Store 0
     may_take_state handed' = let third : IsTaking u with_both = takes_opaque r u opaque a k with_start second handed' is_r g in
         may_take_start u state (e ∙ ap (λ x. Hsm x) (is_r ∙ ap (λ (x : Shown). x.own.actor) (sym handed'))) third.acting third.stage_is third.stopped third.paid
+
+-- a step by which a hart runs, makes a start or owes as the folds say
+module _ (p q : Shown) (word arg answer : ℕ) (op : WordOp) (w : Word) (runs : Bool) (start : Opening) (owes : Bool) (i : IsHart p runs start owes) (made : Adds p q word op arg answer) (e : name_of word ≡ w) (going : (b : Bool) → is_finished_next w op arg answer b ≡ b) where
+  pub hart_on : (runs' : Bool) (start' : Opening) (owes' : Bool) → is_running_next p.own.actor w op arg answer runs ≡ runs' → opening_next w op arg answer start ≡ start' → is_owing_next p.own.actor w op arg answer owes ≡ owes' → IsHart q runs' start' owes'
+  hart_on runs' start' owes' r o b = record {
+    acting = acting_adds p q word arg answer op w made e going i.acting;
+    hart = subst (λ (x : Shown). x.own.actor < x.machine.layout.harts) (sym made) i.hart;
+    running = ap (λ (x : Shown). is_running x.own.actor x.own.runs q.own.steps) made ∙ fold_adds (is_running_next p.own.actor) p.own.runs p q word arg answer op w made e ∙ ap (is_running_next p.own.actor w op arg answer) i.running ∙ r;
+    start_is = opening_took p q word arg answer op w made e ∙ ap (opening_next w op arg answer) i.start_is ∙ o;
+    owing = ap (λ x. is_owing x q.own.steps) (same_actor p q word arg answer op made) ∙ fold_adds (is_owing_next p.own.actor) false p q word arg answer op w made e ∙ ap (is_owing_next p.own.actor w op arg answer) i.owing ∙ b;
+  }
+
+-- a start of another hart: its exchange
+module _ (p q : Shown) (word t answer : ℕ) (i : IsAtRest p true) (made : Adds p q word (Exchange 1) 3 answer) (e : name_of word ≡ Hsm t) where
+  pub rests_refused : answer ≢ 1 → IsAtRest q true
+  rests_refused ne = hart_on p q word 3 answer (Exchange 1) (Hsm t) true closed false i made e (λ _. refl) true closed false refl (go answer ne) refl
+    where
+      go : (n : ℕ) → n ≢ 1 → opening_next (Hsm t) (Exchange 1) 3 n closed ≡ closed
+      go zero ne = refl
+      go (suc zero) ne = absurd (ne refl)
+      go (suc (suc n)) ne = refl
+
+  pub rests_begun : answer ≡ 1 → IsHart q true (opened t) false
+  rests_begun one = hart_on p q word 3 answer (Exchange 1) (Hsm t) true closed false i made e (λ _. refl) true (opened t) false refl (ap (λ n. opening_next (Hsm t) (Exchange 1) 3 n closed) one) refl
+
+-- and its other steps
+pub rests_placed : (p q : Shown) (word t at : ℕ) → IsHart p true (opened t) false → Adds p q word Store at 0 → name_of word ≡ Start t → IsHart q true (placed t) false
+rests_placed p q word t at i made e = hart_on p q word at 0 Store (Start t) true (opened t) false i made e (λ _. refl) true (placed t) false refl refl refl
+
+pub rests_handed : (p q : Shown) (word t arg : ℕ) → IsHart p true (placed t) false → Adds p q word Store arg 0 → name_of word ≡ Opaque t → IsHart q true (handed t) false
+rests_handed p q word t arg i made e = hart_on p q word arg 0 Store (Opaque t) true (placed t) false i made e (λ _. refl) true (handed t) false refl refl refl
+
+pub rests_counted : (p q : Shown) (word t answer : ℕ) → IsHart p true (handed t) false → Adds p q word Add 1 answer → name_of word ≡ Live → IsHart q true (counted t) false
+rests_counted p q word t answer i made e = hart_on p q word 1 answer Add Live true (handed t) false i made e (λ _. refl) true (counted t) false refl refl refl
+
+pub rests_started : (p q : Shown) (word t : ℕ) → t ≢ p.own.actor → IsHart p true (counted t) false → Adds p q word Store 2 0 → name_of word ≡ Hsm t → IsAtRest q true
+rests_started p q word t ne i made e = hart_on p q word 2 0 Store (Hsm t) true (counted t) false i made e (λ _. refl) true closed false
+    (ap (λ (b : Bool). if b then false else true) (ne_eqb t p.own.actor ne)) refl (ap (λ (b : Bool). if b then false else false) (ne_eqb t p.own.actor ne))
+
+-- the own stop
+pub rests_stopping : (p q : Shown) (word a : ℕ) → a ≡ p.own.actor → IsAtRest p true → Adds p q word Store 1 0 → name_of word ≡ Hsm a → IsHart q false closed true
+rests_stopping p q word a is i made e = hart_on p q word 1 0 Store (Hsm a) true closed false i made e (λ _. refl) false closed true
+    (ap (λ (b : Bool). if b then false else true) (eq-eqb a p.own.actor is)) refl (ap (λ (b : Bool). if b then true else false) (eq-eqb a p.own.actor is))
+
+pub rests_stopped : (p q : Shown) (word answer : ℕ) → IsHart p false closed true → Adds p q word Add minus_one answer → name_of word ≡ Live → IsAtRest q false
+rests_stopped p q word answer i made e = hart_on p q word minus_one answer Add Live false closed true i made e (λ _. refl) false closed false refl refl refl
+
+-- the own start
+pub rests_loaded : (p q : Shown) (word h answer : ℕ) (runs : Bool) → IsAtRest p runs → Adds p q word Load 0 answer → name_of word ≡ Hsm h → IsAtRest q runs
+rests_loaded p q word h answer runs i made e = hart_on p q word 0 answer Load (Hsm h) runs closed false i made e (λ _. refl) runs closed false refl refl refl
+
+pub rests_told : (p q : Shown) (word h answer : ℕ) → IsAtRest p false → Adds p q word Load 0 answer → name_of word ≡ Start h → IsAtRest q false
+rests_told p q word h answer i made e = hart_on p q word 0 answer Load (Start h) false closed false i made e (λ _. refl) false closed false refl refl refl
+
+pub rests_given : (p q : Shown) (word h answer : ℕ) → IsAtRest p false → Adds p q word Load 0 answer → name_of word ≡ Opaque h → IsAtRest q false
+rests_given p q word h answer i made e = hart_on p q word 0 answer Load (Opaque h) false closed false i made e (λ _. refl) false closed false refl refl refl
+
+pub rests_running : (p q : Shown) (word a : ℕ) → a ≡ p.own.actor → IsAtRest p false → Adds p q word Store 0 0 → name_of word ≡ Hsm a → IsAtRest q true
+rests_running p q word a is i made e = hart_on p q word 0 0 Store (Hsm a) false closed false i made e (λ _. refl) true closed false
+    (ap (λ (b : Bool). if b then true else false) (eq-eqb a p.own.actor is)) refl (ap (λ (b : Bool). if b then false else false) (eq-eqb a p.own.actor is))

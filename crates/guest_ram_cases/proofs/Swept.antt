@@ -16,7 +16,7 @@ use Rattle.guest_ram.proofs.MaySteps.{may_lock_other, may_unlock_other, may_load
 use Rattle.guest_ram.proofs.Moves.{acting_adds, lock_adds, fold_adds, found_there}
 use Rattle.guest_ram_cases.specs.Sweeps.{IsAtStage, after_pass}
 
-stage_adds : (p q : Shown) (word arg answer : ℕ) (op : WordOp) (w : Word) → Adds p q word op arg answer → name_of word ≡ w
+pub stage_adds : (p q : Shown) (word arg answer : ℕ) (op : WordOp) (w : Word) → Adds p q word op arg answer → name_of word ≡ w
     → stage q.machine.layout q.own.steps ≡ stage_next p.machine.layout (λ t. last_place t p.own.steps) w op arg answer (stage p.machine.layout p.own.steps)
 stage_adds p q word arg answer op w made e = ap (λ (x : Shown). stage x.machine.layout x.own.steps) made
     ∙ ap (λ v. stage_next p.machine.layout (λ t. last_place t p.own.steps) v op arg answer (stage p.machine.layout p.own.steps)) e

@@ -66,3 +66,7 @@ HasDirtied p j q = (found : ℕ) × (q ≡ after_step p (number_of (Tlb p.own.ac
 -- SIZE of the own table was loaded
 abbrev pub size_loaded : Shown → (found : ℕ) → Shown
 size_loaded p found = after_step p (number_of (Size p.own.actor)) Load 0 found
+
+-- a word of a slot of the own table was loaded
+abbrev pub slot_loaded : Shown → (slot : ℕ) → TlbField → (found : ℕ) → Shown
+slot_loaded p j f found = after_step p (number_of (Tlb p.own.actor j f)) Load 0 found

@@ -2,7 +2,7 @@
 use Rattle.std.specs.Prelude.{◌≡◌, ◌≢◌, ◌≤◌, ◌<◌, ◌⊎◌, ℕ, ◌+◌, ◌/◌, ◌%◌, ◌^◌, true, List, [], ◌∷◌, ◌++◌, length}
 use Rattle.step_laws.specs.declared.steps.Step.{Step}
 use Rattle.step_laws.specs.declared.steps.WordOp.TheVariants.{Load, Store, Add, Or, Exchange}
-use Rattle.step_laws.specs.Map.{Cons, Console, Dirty, Done, Pend, Ram, Run, Stop, number_of, console_places}
+use Rattle.step_laws.specs.Map.{Cons, Console, Dirty, Done, Ipi, Pend, Ram, Run, Stop, number_of, console_places}
 use Rattle.step_laws.specs.Marks.{is_armed}
 use Rattle.guest_ram.specs.Plays.{step_of}
 use Rattle.guest_ram.specs.Ports.{Shown, after_step}
@@ -83,3 +83,19 @@ HasEnded p reason found q = (before : ℕ) × (q ≡ after_step (after_step p (n
 
 abbrev pub HasSignedOff : Shown → Shown → Type 0
 HasSignedOff p q = q ≡ after_step p (number_of (Done p.own.actor)) Store 1 0
+
+-- STOP was loaded, with which a turn begins
+abbrev pub stop_loaded : Shown → (found : ℕ) → Shown
+stop_loaded p found = after_step p (number_of Stop) Load 0 found
+
+-- the hart's bit was set in IPI, which was found so
+abbrev pub interrupted : Shown → (hart found : ℕ) → Shown
+interrupted p hart found = after_step p (number_of Ipi) Or (2 ^ hart) found
+
+-- CONS was loaded, and then a place
+abbrev pub console_read : Shown → (place count found : ℕ) → Shown
+console_read p place count found = after_step (after_step p (number_of Cons) Load 0 count) (number_of (Console place)) Load 0 found
+
+-- a word of RAM was stored
+abbrev pub ram_stored : Shown → (index value : ℕ) → Shown
+ram_stored p index value = after_step p (number_of (Ram index)) Store value 0

@@ -4,11 +4,12 @@ ghost use Rattle.step_laws.specs.Loader.{IsBooted};
 ghost use Rattle.step_laws.specs.Words.{all_slots};
 ghost use Rattle.step_laws.specs.Tables.{is_first_slot};
 ghost use Rattle.guest_ram.specs.Ports.{layout_of, IsBooting, GoesBy};
-ghost use Rattle.guest_ram.specs.Areas.{AnyWord};
+ghost use Rattle.guest_ram.specs.Areas.{AnyWord, IsOfRam};
 ghost use Rattle.guest_ram_cases.specs.Booted.{IsClear, IsHartBooted};
+ghost use Rattle.guest_ram_cases.specs.Made.{ram_stored};
 
 use guest_ram::Port;
-use step_laws::{TlbField, hsm_word, live_word, size_word, tlb_word};
+use step_laws::{TlbField, hsm_word, live_word, ram_word_at, size_word, tlb_word};
 
 /// Makes a slot of a hart's TLB invalid.
 #[tactic(auto, using(guest_ram::proofs::MaySteps::boot_kinds))]
@@ -42,6 +43,19 @@ fn boot_table<P: Port>(port: &mut P, hart: u8)
     for victim in 1024..1032 {
         clear_slot(port, hart, victim);
     }
+}
+
+/// Stores a word of RAM, as the loader does with an image.
+#[tactic(auto, using(guest_ram::proofs::MaySteps::boot_kinds))]
+pub fn boot_ram<P: Port>(port: &mut P, index: u32, value: u64)
+    requires booting { IsBooting (P.shows port.old) }
+    requires index { index < 512 * (layout_of (P.shows port.old)).pages }
+    ensures booting { IsBooting (P.shows port.new) }
+    ensures step { (P.shows port.new) ≡ ram_stored (P.shows port.old) index value }
+    ensures goes { GoesBy 1 IsOfRam (P.shows port.old) (P.shows port.new) }
+{
+    let word = ram_word_at(index);
+    port.store(word, value);
 }
 
 /// Stores all that harts and the monitor need to begin, but for RAM.

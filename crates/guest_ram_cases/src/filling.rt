@@ -1,7 +1,9 @@
 // The hart's own table, in a section of its lock.
 ghost use Rattle.std.specs.Prelude.{◌≡◌, ◌≢◌, ◌<◌, ◌%◌, true};
 ghost use Rattle.step_laws.specs.Discipline.{IsInUse};
-ghost use Rattle.step_laws.specs.Tables.{size_of};
+ghost use Rattle.step_laws.specs.Tables.{size_of, table_word};
+ghost use Rattle.step_laws.specs.declared.map.TlbField.TheVariants.{Page};
+ghost use Rattle.step_laws.specs.Map.{Tlb};
 ghost use Rattle.step_laws.specs.Words.{all_slots};
 ghost use Rattle.guest_ram.specs.Areas.{IsOfTable};
 ghost use Rattle.guest_ram.specs.Ports.{layout_of, IsActing, GoesBy};
@@ -29,6 +31,7 @@ pub fn fill<P: Port>(port: &mut P, slot: u16, entry: &Entry)
     requires marked { entry.now.write % 4 ≢ 0 }
     requires paid { IsPaid (P.shows port.old) }
     ensures filled { HasFilled (P.shows port.old) slot entry.now (P.shows port.new) }
+    ensures page { table_word (Tlb (P.shows port.new).own.actor slot Page) (P.shows port.new).own.steps ≡ entry.now.page }
     ensures held { IsHolding (P.shows port.new) }
     ensures paid { IsPaid (P.shows port.new) }
     ensures size { size_of (P.shows port.new).own.actor (P.shows port.new).own.steps ≡ size_of (P.shows port.old).own.actor (P.shows port.old).own.steps }

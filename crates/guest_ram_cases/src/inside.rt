@@ -1,12 +1,13 @@
 // What an actor does while it is inside.
 ghost use Rattle.std.specs.Prelude.{◌≡◌, ◌≤◌, ◌<◌, ◌+◌, ◌*◌, ℕ, OnOk, IfErr};
 ghost use Rattle.step_laws.specs.Sections.{phase, inside};
-ghost use Rattle.guest_ram.specs.Areas.{IsOfOutput, IsOfRam};
+ghost use Rattle.step_laws.specs.Words.{console_places};
+ghost use Rattle.guest_ram.specs.Areas.{IsOfCalls, IsOfOutput, IsOfRam};
 ghost use Rattle.guest_ram.specs.Ports.{layout_of, IsActing, GoesBy};
-ghost use Rattle.guest_ram_cases.specs.Made.{HasAdded, HasFound, HasPut, IsArmedFor};
+ghost use Rattle.guest_ram_cases.specs.Made.{HasAdded, HasFound, HasPut, IsArmedFor, console_read, interrupted};
 
 use guest_ram::Port;
-use step_laws::{CONSOLE_PLACES, cons_word, console_word, ram_word_at};
+use step_laws::{CONSOLE_PLACES, cons_word, console_word, ipi_word, ram_word_at};
 
 /// Puts a byte on the console. An `Err` has the place that was drawn where there was none left.
 #[tactic(auto, using(guest_ram::proofs::MaySteps::touch_kinds, guest_ram::proofs::Moves::actor_few))]
@@ -43,4 +44,34 @@ pub fn add_to_row<P: Port>(port: &mut P, from: u32, count: u32, value: u64)
     for i in 0..count {
         port.fetch_add(ram_word_at(from + i), value);
     }
+}
+
+/// How many places of the console were drawn, and what stands in a place: the byte and 256, or 0.
+#[tactic(auto, using(guest_ram::proofs::MaySteps::touch_kinds))]
+pub fn read_console<P: Port>(port: &mut P, place: u32) -> (u64, u64)
+    requires acting { IsActing (P.shows port.old) }
+    requires inside { phase (P.shows port.old).own.steps ≡ inside }
+    requires place { place < console_places }
+    ensures steps { (P.shows port.new) ≡ console_read (P.shows port.old) place result.0 result.1 }
+    ensures inside { phase (P.shows port.new).own.steps ≡ inside }
+    ensures acting { IsActing (P.shows port.new) }
+    ensures goes { GoesBy 2 IsOfOutput (P.shows port.old) (P.shows port.new) }
+{
+    let count = port.load(cons_word());
+    let found = port.load(console_word(place));
+    (count, found)
+}
+
+/// Asks for an interrupt of a hart. Answers the harts' bits as they were.
+#[tactic(auto, using(guest_ram::proofs::MaySteps::touch_kinds, crate::proofs::Turns::hart_bit))]
+pub fn interrupt<P: Port>(port: &mut P, hart: u8) -> u64
+    requires acting { IsActing (P.shows port.old) }
+    requires inside { phase (P.shows port.old).own.steps ≡ inside }
+    requires hart { hart < (layout_of (P.shows port.old)).harts }
+    ensures step { (P.shows port.new) ≡ interrupted (P.shows port.old) hart result }
+    ensures inside { phase (P.shows port.new).own.steps ≡ inside }
+    ensures acting { IsActing (P.shows port.new) }
+    ensures goes { GoesBy 1 IsOfCalls (P.shows port.old) (P.shows port.new) }
+{
+    port.fetch_or(ipi_word(), 1u64 << hart)
 }

@@ -1,6 +1,7 @@
 // Calling another hart out of its section.
 ghost use Rattle.std.specs.Prelude.{◌≡◌, ◌≢◌, ◌<◌, IsTrue, false};
-ghost use Rattle.guest_ram.specs.Ports.{layout_of, IsActing};
+ghost use Rattle.guest_ram.specs.Areas.{IsOfCalls};
+ghost use Rattle.guest_ram.specs.Ports.{layout_of, IsActing, GoesBy};
 ghost use Rattle.guest_ram_cases.specs.Claims.{HasKicked, HasAnswered, kick_loaded};
 
 use guest_ram::Port;
@@ -14,6 +15,7 @@ pub fn kick<P: Port>(port: &mut P, other: u8)
     requires other { other ≢ (P.shows port.old).own.actor }
     ensures step { HasKicked (P.shows port.old) other (P.shows port.new) }
     ensures acting { IsActing (P.shows port.new) }
+    ensures goes { GoesBy 1 IsOfCalls (P.shows port.old) (P.shows port.new) }
 {
     port.store(kick_word(other), 1);
 }
@@ -26,6 +28,7 @@ pub fn take_kick<P: Port>(port: &mut P) -> bool
     ensures taken { IsTrue result → HasAnswered (P.shows port.old) (P.shows port.new) }
     ensures none { result ≡ false → (P.shows port.new) ≡ kick_loaded (P.shows port.old) 0 }
     ensures acting { IsActing (P.shows port.new) }
+    ensures goes { GoesBy 2 IsOfCalls (P.shows port.old) (P.shows port.new) }
 {
     let own = kick_word(port.actor());
     let found = port.load(own);

@@ -1,6 +1,7 @@
 // Every operation on a word of RAM, by a hart that is inside.
 ghost use Rattle.std.specs.Prelude.{◌≡◌, ◌<◌, ◌*◌, ℕ};
-ghost use Rattle.guest_ram.specs.Ports.{layout_of};
+ghost use Rattle.guest_ram.specs.Areas.{IsOfRam};
+ghost use Rattle.guest_ram.specs.Ports.{layout_of, GoesBy};
 ghost use Rattle.guest_ram_cases.specs.Operations.{HasStoredAll, HasCombinedAll, IsWriting};
 
 use guest_ram::Port;
@@ -12,6 +13,7 @@ pub fn store_all<P: Port>(port: &mut P, index: u32) -> u64
     requires index { index < 512 * (layout_of (P.shows port.old)).pages }
     ensures steps { HasStoredAll (P.shows port.old) index result (P.shows port.new) }
     ensures writing { IsWriting (P.shows port.new) index }
+    ensures goes { GoesBy 5 IsOfRam (P.shows port.old) (P.shows port.new) }
 {
     let word = ram_word_at(index);
     port.store(word, 12);
@@ -27,6 +29,7 @@ pub fn combine_all<P: Port>(port: &mut P, index: u32)
     requires index { index < 512 * (layout_of (P.shows port.old)).pages }
     ensures steps { HasCombinedAll (P.shows port.old) index (P.shows port.new) }
     ensures writing { IsWriting (P.shows port.new) index }
+    ensures goes { GoesBy 5 IsOfRam (P.shows port.old) (P.shows port.new) }
 {
     let word = ram_word_at(index);
     port.fetch_and(word, 12);

@@ -1,10 +1,10 @@
 // Requests in rings of eight places, at their source.
 ghost use Rattle.std.specs.Prelude.{◌≡◌, ◌≢◌, ◌<◌, ◌∷◌, OnOk, IfErr};
 ghost use Rattle.step_laws.specs.Fields.{IsRequestWord};
-ghost use Rattle.step_laws.specs.Map.{Place};
-ghost use Rattle.step_laws.specs.Places.{posts, post_place, last_load};
+ghost use Rattle.step_laws.specs.Places.{posts, post_place};
+ghost use Rattle.guest_ram.specs.Areas.{IsOfPlaces};
+ghost use Rattle.guest_ram.specs.Ports.{layout_of, IsActing, GoesBy};
 ghost use Rattle.guest_ram_cases.specs.Requests.{HasPosted, place_loaded};
-ghost use Rattle.guest_ram.specs.Ports.{layout_of, IsActing};
 
 use guest_ram::{Port, Seen};
 use step_laws::place_word;
@@ -22,6 +22,7 @@ pub fn post<P: Port>(port: &mut P, target: u8, place: u8, request: u64) -> Resul
     ensures posted { OnOk result (posts target (P.shows port.new).own.actor (P.shows port.new).own.steps ≡ request ∷ posts target (P.shows port.old).own.actor (P.shows port.old).own.steps) }
     ensures refused { IfErr result (λ _. posts target (P.shows port.new).own.actor (P.shows port.new).own.steps ≡ posts target (P.shows port.old).own.actor (P.shows port.old).own.steps) }
     ensures acting { IsActing (P.shows port.new) }
+    ensures goes { GoesBy 2 IsOfPlaces (P.shows port.old) (P.shows port.new) }
 {
     let word = place_word(target, port.actor(), place);
     let found = port.load(word);
@@ -41,7 +42,9 @@ pub fn poll_done<P: Port>(port: &mut P, target: u8, place: u8) -> Result<(), See
     requires place { place < 8 }
     ensures done { OnOk result ((P.shows port.new) ≡ place_loaded (P.shows port.old) target (P.shows port.old).own.actor place 0) }
     ensures found { IfErr result (λ seen. (seen.value ≢ 0) × ((P.shows port.new) ≡ place_loaded (P.shows port.old) target (P.shows port.old).own.actor place seen.value)) }
+    ensures posted { posts target (P.shows port.new).own.actor (P.shows port.new).own.steps ≡ posts target (P.shows port.old).own.actor (P.shows port.old).own.steps }
     ensures acting { IsActing (P.shows port.new) }
+    ensures goes { GoesBy 1 IsOfPlaces (P.shows port.old) (P.shows port.new) }
 {
     let word = place_word(target, port.actor(), place);
     let found = port.load(word);

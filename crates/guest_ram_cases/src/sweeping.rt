@@ -29,7 +29,7 @@ pub fn sweep<P: Port>(port: &mut P, hart: u8) -> Result<(), Seen>
     requires hart { hart < (layout_of (P.shows port.old)).harts }
     ensures stage { OnOk result (IsAtStage (P.shows port.new) (after_pass (P.shows port.old) hart)) }
     ensures refused { IfErr result (λ seen. HasFoundLock (P.shows port.old) hart seen.value (P.shows port.new)) }
-    ensures goes { OnOk result (GoesBy 1035 IsOfTable (P.shows port.old) (P.shows port.new)) }
+    ensures goes { GoesBy 1035 IsOfTable (P.shows port.old) (P.shows port.new) }
 {
     let word = lock_word(hart);
     let own = u64::from(port.actor()) + 1;

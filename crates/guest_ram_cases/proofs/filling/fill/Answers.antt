@@ -2,7 +2,7 @@ use Rattle.std.proofs.Common.{refl, ◌∙◌, arith}
 use Rattle.step_laws.specs.declared.map.TlbField.TheVariants.{Read, Write, Code, Page}
 use Rattle.guest_ram.specs.Areas.{IsOfTable}
 use Rattle.guest_ram.proofs.Moves.{goes_step, goes_then}
-use Rattle.guest_ram_cases.proofs.Filled.{IsFilling, fills_on, filled_word, size_on, paid_on, may_fill, may_fill_page}
+use Rattle.guest_ram_cases.proofs.Filled.{IsFilling, page_still, fills_on, filled_word, size_on, paid_on, may_fill, may_fill_page}
 use Rattle.guest_ram_cases.proofs.filling.fill.Goals as goal
 
 pub store-requires-clause-may : goal.store-requires-clause-may
@@ -75,3 +75,12 @@ returns-clause-goes g c = goes_then 4 1 IsOfTable _ _ _ (goes_then 3 1 IsOfTable
     (goes_step IsOfTable _ _ _ _ _ _ _ c.store-3.ensures.step c.store-3.ensures.allowed c.tlb_word-2.ensures.name tt))
     (goes_step IsOfTable _ _ _ _ _ _ _ c.store-4.ensures.step c.store-4.ensures.allowed c.tlb_word-3.ensures.name tt))
     (goes_step IsOfTable _ _ _ _ _ _ _ c.store-5.ensures.step c.store-5.ensures.allowed c.tlb_word-write.ensures.name tt)
+
+pub returns-clause-page : goal.returns-clause-page
+returns-clause-page g c = let own = c.actor-own.result in let slot = c.args.slot in let s0 : IsFilling (g.P.Look.shows c.args.port.now) own slot = record { acting = c.requires.acting; own_is = c.actor-own.ensures; hart = c.requires.hart; held = c.requires.held; used = c.requires.used } in
+    let s1 : IsFilling (g.P.Look.shows c.store.new.self) own slot = fills_on _ _ _ own slot 1 Write s0 c.store.ensures.step c.tlb_word-write.ensures.name in
+    let s2 : IsFilling (g.P.Look.shows c.store-2.new.self) own slot = fills_on _ _ _ own slot _ Page s1 c.store-2.ensures.step c.tlb_word.ensures.name in
+    let s3 : IsFilling (g.P.Look.shows c.store-3.new.self) own slot = fills_on _ _ _ own slot _ Read s2 c.store-3.ensures.step c.tlb_word-2.ensures.name in
+    let s4 : IsFilling (g.P.Look.shows c.store-4.new.self) own slot = fills_on _ _ _ own slot _ Code s3 c.store-4.ensures.step c.tlb_word-3.ensures.name in
+    page_still _ _ _ own slot _ Write s4 c.store-5.ensures.step c.tlb_word-write.ensures.name refl ∙ page_still _ _ _ own slot _ Code s3 c.store-4.ensures.step c.tlb_word-3.ensures.name refl ∙ page_still _ _ _ own slot _ Read s2 c.store-3.ensures.step c.tlb_word-2.ensures.name refl
+    ∙ filled_word _ _ _ own slot _ Page s1 c.store-2.ensures.step c.tlb_word.ensures.name

@@ -1,6 +1,8 @@
 use Rattle.step_laws.specs.declared.steps.WordOp.TheVariants.{Add, Exchange, Load, Store, Swap}
 use Rattle.guest_ram_cases.specs.Operations.{IsWriting}
 use Rattle.guest_ram_cases.proofs.Writes.{may_write, may_read, writes_on}
+use Rattle.guest_ram.specs.Areas.{IsOfRam}
+use Rattle.guest_ram.proofs.Moves.{goes_step, goes_then}
 use Rattle.guest_ram_cases.proofs.operating.store_all.Goals as goal
 
 pub store-requires-clause-may : goal.store-requires-clause-may
@@ -41,3 +43,10 @@ returns-clause-writing g c = let s0 : IsWriting (g.P.Look.shows c.args.port.now)
     let s4 : IsWriting (g.P.Look.shows c.compare_exchange.new.self) c.args.index = writes_on _ _ _ c.args.index _ _ (Exchange 15) s3 c.compare_exchange.ensures.step c.ram_word_at-word.ensures.name in
     let s5 : IsWriting (g.P.Look.shows c.load.new.self) c.args.index = writes_on _ _ _ c.args.index _ _ Load s4 c.load.ensures.step c.ram_word_at-word.ensures.name in
     s5
+
+pub returns-clause-goes : goal.returns-clause-goes
+returns-clause-goes g c = goes_then 4 1 IsOfRam _ _ _ (goes_then 3 1 IsOfRam _ _ _ (goes_then 2 1 IsOfRam _ _ _ (goes_then 1 1 IsOfRam _ _ _ (goes_step IsOfRam _ _ _ _ _ _ _ c.store.ensures.step c.store.ensures.allowed c.ram_word_at-word.ensures.name tt)
+    (goes_step IsOfRam _ _ _ _ _ _ _ c.swap.ensures.step c.swap.ensures.allowed c.ram_word_at-word.ensures.name tt))
+    (goes_step IsOfRam _ _ _ _ _ _ _ c.fetch_add.ensures.step c.fetch_add.ensures.allowed c.ram_word_at-word.ensures.name tt))
+    (goes_step IsOfRam _ _ _ _ _ _ _ c.compare_exchange.ensures.step c.compare_exchange.ensures.allowed c.ram_word_at-word.ensures.name tt))
+    (goes_step IsOfRam _ _ _ _ _ _ _ c.load.ensures.step c.load.ensures.allowed c.ram_word_at-word.ensures.name tt)

@@ -60,3 +60,6 @@ returns-clause-goes g c = let few : c.load-size.result ≤ 1024 = at_most (size_
   where
     at_most : IsSize c.load-size.result → c.load-size.result ≤ 1024
     at_most s = grind (arith, s)
+
+pub returns-then-found-ne0-clause-goes : goal.returns-then-found-ne0-clause-goes
+returns-then-found-ne0-clause-goes g c = goes_at_most 1 1035 IsOfTable _ _ (omega arith) (goes_step IsOfTable _ _ _ _ _ _ _ c.compare_exchange-found.ensures.step c.compare_exchange-found.ensures.allowed c.lock_word-word.ensures.name tt)

@@ -4,7 +4,7 @@ use Rattle.step_laws.proofs.Numbered.{named_zero}
 use Rattle.guest_ram.specs.Ports.{shown_by}
 use Rattle.guest_ram.specs.Shown.{machine_of, pass_shown}
 use Rattle.guest_ram.proofs.MaySteps.{may_split_first}
-use Rattle.guest_ram_cases.proofs.Seats.{booted_split, one_split, one_joined, may_split_again, may_join_again}
+use Rattle.guest_ram_cases.proofs.Leading.{booted_split, one_split, one_joined, may_split_again, may_join_again}
 use Rattle.guest_ram_cases.proofs.threads.two_harts.Goals as goal
 
 pub split-first-requires-clause-may : goal.split-first-requires-clause-may

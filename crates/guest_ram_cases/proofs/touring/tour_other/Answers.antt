@@ -11,7 +11,7 @@ pub store_all-found-requires-clause-writing : goal.store_all-found-requires-clau
 store_all-found-requires-clause-writing g c = record {
   acting = c.enter.ensures.acting;
   hart = subst (λ (x : Shown). x.own.actor < x.machine.layout.harts) (sym c.enter.ensures.goes.grown) (subst (λ (x : Shown). x.own.actor < x.machine.layout.harts) (sym c.mark.ensures.goes.grown)
-      (subst (λ (x : Shown). x.own.actor < x.machine.layout.harts) (sym c.first_size-size.ensures.goes.grown) c.requires.hart));
+      (subst (λ (x : Shown). x.own.actor < x.machine.layout.harts) (sym c.write_word-write.ensures.goes.grown) (subst (λ (x : Shown). x.own.actor < x.machine.layout.harts) (sym c.first_size-size.ensures.goes.grown) c.requires.hart)));
   stands = search rules;
   armed = armed_goes 3 IsOfSection _ _ 0 section_steady c.enter.ensures.goes c.mark.ensures.armed;
 }
@@ -21,5 +21,6 @@ end_machine-reason-requires-clause-reason g c = pass refl
 
 pub enter-requires-clause-out : goal.enter-requires-clause-out
 enter-requires-clause-out g c = let a = stands_goes 1 IsOfTable _ _ (λ w x. inner_aside w (table_inner w x)) c.first_size-size.ensures.goes in
+    let d = stands_goes 1 IsOfTable _ _ (λ w x. inner_aside w (table_inner w x)) c.write_word-write.ensures.goes in
     let b = stands_goes 1 IsOfRam _ _ (λ w x. inner_aside w (ram_inner w x)) c.mark.ensures.goes in
-    (b.phase ∙ a.phase ∙ ap phase c.requires.fresh.no_step, b.claim ∙ a.claim ∙ ap is_claimant c.requires.fresh.no_step)
+    (b.phase ∙ d.phase ∙ a.phase ∙ ap phase c.requires.fresh.no_step, b.claim ∙ d.claim ∙ a.claim ∙ ap is_claimant c.requires.fresh.no_step)

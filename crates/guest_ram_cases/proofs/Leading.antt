@@ -9,15 +9,9 @@ use Rattle.step_laws.proofs.Numbered.{named_zero}
 use Rattle.guest_ram.specs.Areas.{AnyWord}
 use Rattle.guest_ram.specs.Ports.{Machine, Shown, May, GoesBy, IsBooting, after_split, after_join}
 use Rattle.guest_ram.specs.Shown.{first_shown}
+use Rattle.guest_ram_cases.specs.Tours.{IsSplit}
 use Rattle.guest_ram.proofs.MaySteps.{may_split_more}
 use Rattle.guest_ram.proofs.Moves.{split_began, join_began}
-
--- the loader of this machine, that has split these seats off, the last first, and joined those in their order
-pub record IsSplit (m : Machine) (p : Shown) (off back : List ℕ) : Type 0 where
-  pub machine : p.machine ≡ m
-  pub actor : p.own.actor ≡ loader
-  pub splits : p.splits ≡ off
-  pub joined : map (λ (r : Record). r.actor) p.joined ≡ back
 
 -- before its first split
 pub booted_split : (m : Machine) (n : ℕ) (p q r : Shown) → p ≡ first_shown m → q ≡ p → GoesBy n AnyWord q r → IsBooting r → IsSplit m r [] []
@@ -80,3 +74,11 @@ three_back m p q a b c s e = listed_all (c ∷ b ∷ a ∷ []) (a ∷ b ∷ c �
 
 pub actors_joined : (m : Machine) (p q : Shown) (off back : List ℕ) → IsSplit m p off back → q ≡ p → map (λ (r : Record). r.actor) (q.own ∷ q.joined) ≡ loader ∷ back
 actors_joined m p q off back s e = ap (λ (x : Shown). map (λ (r : Record). r.actor) (x.own ∷ x.joined)) e ∙ (λ i. s.actor i ∷ s.joined i)
+
+pub split_same : (m : Machine) (p q : Shown) (off back : List ℕ) → IsSplit m p off back → q ≡ p → IsSplit m q off back
+split_same m p q off back s e = record {
+  machine = ap (λ (x : Shown). x.machine) e ∙ s.machine;
+  actor = ap (λ (x : Shown). x.own.actor) e ∙ s.actor;
+  splits = ap (λ (x : Shown). x.splits) e ∙ s.splits;
+  joined = ap (λ (x : Shown). map (λ (r : Record). r.actor) x.joined) e ∙ s.joined;
+}
