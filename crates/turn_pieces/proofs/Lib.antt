@@ -1,0 +1,6 @@
+pub mod Sections
+pub mod Writers
+pub mod Offers
+pub mod Calls
+pub mod Accesses
+pub mod Chains
