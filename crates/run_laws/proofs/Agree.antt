@@ -19,10 +19,10 @@ use Rattle.machine_model.specs.Memory.{StoreEntry, write_of, with_entry, written
 use Rattle.machine_model.specs.Event.{Event, did_of}
 use Rattle.machine_model.specs.State.{Setup, memory}
 use Rattle.machine_model.specs.Run.{state_of}
-use Rattle.run_laws.specs.Placed.{Placed, placed, steps, run_of, mine}
-use Rattle.run_laws.specs.Kept.{whole, part, half, half_next}
-use Rattle.run_laws.specs.Fits.{IsShared}
-use Rattle.run_laws.specs.Pieces.{Told, IsIdleStep}
+use Rattle.run_laws.proofs.Placed.{Placed, placed, steps, run_of, mine}
+use Rattle.run_laws.proofs.Kept.{whole, part, half, half_next}
+use Rattle.turn_pieces.specs.Shared.{IsShared}
+use Rattle.run_laws.proofs.Pieces.{Told, IsIdleStep}
 use Rattle.run_laws.proofs.Beginning.{IsBegun, history}
 use Rattle.run_laws.proofs.Weave.{by_mine, mine_here}
 use Rattle.run_laws.proofs.States.{entries_none, entries_some}

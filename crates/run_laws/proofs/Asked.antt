@@ -27,10 +27,12 @@ use Rattle.machine_model.specs.State.{Setup}
 use Rattle.machine_model.specs.Run.{fetches, flushes, includes}
 use Rattle.machine_model.specs.Lawful.{Flushed}
 use Rattle.machine_model.proofs.Uniform.{has_more}
-use Rattle.run_laws.specs.Placed.{Placed, placed, steps, run_of, mine, Spares}
-use Rattle.run_laws.specs.Fits.{Names, Posted, Answered, AskedFor}
-use Rattle.run_laws.specs.Acks.{flush_of, Makes, IsFlushed, Acks}
-use Rattle.run_laws.specs.Pieces.{Told}
+use Rattle.run_laws.proofs.Placed.{Placed, placed, steps, run_of, mine, Spares}
+use Rattle.turn_pieces.specs.Requests.{Names}
+use Rattle.run_laws.proofs.Fits.{Posted, Answered, AskedFor}
+use Rattle.turn_pieces.specs.Requests.{flush_of}
+use Rattle.run_laws.proofs.Acks.{Makes, IsFlushed, Acks}
+use Rattle.run_laws.proofs.Pieces.{Told}
 use Rattle.run_laws.proofs.Beginning.{IsBegun, history}
 use Rattle.run_laws.proofs.Used.{FenceLaw}
 use Rattle.run_laws.proofs.Weave.{by_mine}

@@ -8,8 +8,9 @@ use Rattle.step_laws.specs.Map.{Cons, Stop, Hsm, name_of, number_of}
 use Rattle.step_laws.specs.Words.{loader}
 use Rattle.step_laws.specs.Steps.{own_steps, value_at}
 use Rattle.machine_model.specs.State.{Setup, initial, mode_of}
-use Rattle.run_laws.specs.Placed.{Placed, steps}
-use Rattle.run_laws.specs.Fits.{IsShared, mode_named, runs_first}
+use Rattle.run_laws.proofs.Placed.{Placed, steps}
+use Rattle.turn_pieces.specs.Shared.{IsShared, mode_named}
+use Rattle.run_laws.proofs.Fits.{runs_first}
 
 -- the loader's stores leave the image in the words that are memory, and the harts' states as the machine begins
 pub record IsBegun (u : Setup) (boot : List Step) : Type 0 where

@@ -13,8 +13,9 @@ use Rattle.step_laws.proofs.Woven.{woven, woven_before, held_value, IsStart}
 use Rattle.step_laws.proofs.Along.{start_of, silent_own, booted_word}
 use Rattle.machine_model.specs.declared.mode.Mode.TheVariants.{Halted}
 use Rattle.machine_model.specs.State.{Setup, initial, mode_of, new_hart}
-use Rattle.run_laws.specs.Fits.{mode_named, runs_first}
-use Rattle.run_laws.specs.Begun.{IsLoaded}
+use Rattle.turn_pieces.specs.Shared.{mode_named}
+use Rattle.run_laws.proofs.Fits.{runs_first}
+use Rattle.run_laws.proofs.Begun.{IsLoaded}
 use Rattle.run_laws.proofs.Beginning.{IsBegun}
 
 module _ (u : Setup) (boot h : List Step) (runs : ℕ → Bool) (i : IsHistory u.layout runs (h ++ boot)) (l : IsLoaded u runs boot) where

@@ -21,12 +21,16 @@ use Rattle.machine_model.specs.Run.{state_of, leaves, says_all_stopped, last_of,
 use Rattle.machine_model.specs.Own.{own_of}
 use Rattle.machine_model.proofs.Uniform.{run_length}
 use Rattle.machine_model.specs.Lawful.{IsRun}
-use Rattle.run_laws.specs.Placed.{Placed, steps, run_of, mine}
-use Rattle.run_laws.specs.Fits.{AllFit, mode_named, runs_first}
-use Rattle.run_laws.specs.Accounts.{AreQuiet, Accounts, calm, writes, writes_half, writes_rest, draws, fills, draws_none, draws_more, fills_more, fills_last, ends, takes, gives_start, gives_opaque, lets, begins_here, leaves_here}
-use Rattle.run_laws.specs.Pieces.{IsActing, IsTurns, none, turn, looks, IsIdle, Said, Told, IsIdleStep}
-use Rattle.run_laws.specs.Composition.{Full, Composed, Composition}
-use Rattle.run_laws.specs.Kept.{part_at, was_last, half, whole, drawn, drawn_next, has_bytes, first_drawn, unstored, unstored_next, bytes_of}
+use Rattle.run_laws.proofs.Placed.{Placed, steps, run_of, mine}
+use Rattle.run_laws.proofs.Fits.{AllFit, runs_first}
+use Rattle.turn_pieces.specs.Shared.{mode_named}
+use Rattle.run_laws.proofs.Accounts.{AreQuiet, Accounts, calm, writes, writes_half, writes_rest, draws, fills, draws_none, draws_more, fills_more, fills_last, ends, takes, gives_start, gives_opaque, lets, begins_here, leaves_here}
+use Rattle.run_laws.proofs.Pieces.{IsActing, IsTurns, none, turn, looks, IsIdle, Said, Told, IsIdleStep}
+use Rattle.run_laws.specs.Ended.{IsFilled as Full}
+use Rattle.run_laws.proofs.Composition.{Composed, Composition}
+use Rattle.run_laws.proofs.Kept.{part_at, half, whole, drawn, has_bytes, unstored, bytes_of}
+use Rattle.turn_pieces.specs.Folds.{was_last, drawn_next, unstored_next}
+use Rattle.turn_pieces.specs.Doing.{first_drawn}
 use Rattle.run_laws.proofs.Modes.{modes_of}
 use Rattle.run_laws.proofs.Reasons.{reason_of}
 use Rattle.run_laws.proofs.Output.{Out, shut, open_by, out_of}
@@ -147,6 +151,7 @@ module _ (u : Setup) (boot : List Step) (runs : ℕ → Bool) (begun : IsBegun u
     run = run_of ts;
     is_run = is_run ts j d;
     reads = record { all = ts; order = is; kept = kept; events = refl };
+    told = d;
     memory_is = λ x sx. ap (λ l. value_at x (l ++ boot)) (sym is) ∙ by_agree x ((agrees_of u boot runs begun ts j d).agree x sx);
     modes_are = λ k lt. ap (λ l. mode_named (value_at (number_of (Hsm k)) (l ++ boot))) (sym is) ∙ sym (modes_of u boot runs begun ran ts j d k lt);
     reason_is = ap (λ l. value_at (number_of Stop) (l ++ boot)) (sym is) ∙ reason_of u boot runs begun ts j d;

@@ -20,9 +20,9 @@ use Rattle.step_laws.proofs.Woven.{woven, held_value}
 use Rattle.step_laws.proofs.Counted.{Sums, sums_of, total_few}
 use Rattle.machine_model.specs.State.{Setup}
 use Rattle.step_laws.specs.Words.{console_places}
-use Rattle.run_laws.specs.Placed.{Placed, steps, mine}
-use Rattle.run_laws.specs.Filling.{Filled, within, beyond, ended, overflow, said, filled, filled_next, may_draw, may_draw_next, Drawing}
-use Rattle.run_laws.specs.Pieces.{Told, IsIdleStep}
+use Rattle.run_laws.proofs.Placed.{Placed, steps, mine}
+use Rattle.turn_pieces.specs.Draws.{Filled, within, beyond, ended, overflow, said, filled, filled_next, may_draw, may_draw_next, Drawing}
+use Rattle.run_laws.proofs.Pieces.{Told, IsIdleStep}
 use Rattle.run_laws.proofs.Beginning.{IsBegun, history}
 use Rattle.run_laws.proofs.Weave.{by_mine, mine_here, mine_other}
 use Rattle.run_laws.proofs.Agree.{history_tail}

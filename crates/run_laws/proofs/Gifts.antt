@@ -18,13 +18,15 @@ use Rattle.machine_model.specs.Event.{Event, Starting, did_of}
 use Rattle.machine_model.specs.State.{Setup, hart, initial}
 use Rattle.machine_model.specs.Run.{state_of}
 use Rattle.machine_model.proofs.Uniform.{run_length}
-use Rattle.run_laws.specs.Placed.{Placed, steps, run_of, mine}
-use Rattle.run_laws.specs.Fits.{IsShared, runs_first}
-use Rattle.run_laws.specs.Accounts.{AreQuiet, IsCalm, newest, last_start, Accounts, calm, writes, writes_half, writes_rest, draws, fills, draws_none, draws_more, fills_more, fills_last, ends, takes, gives_start, gives_opaque, lets, begins_here, leaves_here}
+use Rattle.run_laws.proofs.Placed.{Placed, steps, run_of, mine}
+use Rattle.turn_pieces.specs.Shared.{IsShared}
+use Rattle.run_laws.proofs.Fits.{runs_first}
+use Rattle.run_laws.proofs.Accounts.{AreQuiet, Accounts, calm, writes, writes_half, writes_rest, draws, fills, draws_none, draws_more, fills_more, fills_last, ends, takes, gives_start, gives_opaque, lets, begins_here, leaves_here}
+use Rattle.turn_pieces.specs.Doing.{IsCalm, newest, last_start}
 use Rattle.run_laws.proofs.Beginning.{IsBegun, history}
 use Rattle.run_laws.proofs.Used.{IsOpening}
 use Rattle.run_laws.proofs.Weave.{by_mine, behind}
-use Rattle.run_laws.specs.Pieces.{Told, IsIdleStep}
+use Rattle.run_laws.proofs.Pieces.{Told, IsIdleStep}
 use Rattle.run_laws.proofs.States.{Gift, gift, gift_next, gift_after, harts_there}
 use Rattle.run_laws.proofs.Shared.{Still, value_still, value_other}
 use Rattle.run_laws.proofs.Agree.{history_tail, own_history}

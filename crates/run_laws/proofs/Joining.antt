@@ -1,6 +1,6 @@
 -- From joined records to the run.
 use Rattle.std.proofs.Common.{◌≡◌, ◌≢◌, ◌⊎◌, ℕ, zero, suc, ◌<◌, ◌≤◌, Bool, true, false, List, [], ◌∷◌, ◌++◌, Some, refl, sym, ap, subst, ◌∙◌, inl, inr, arith, length, map, eq-eqb, ne_eqb}
-use Rattle.std.specs.Prelude.{◌==◌, if◌then◌else◌, slice_index, ◌||◌}
+use Rattle.std.specs.Prelude.{◌==◌, ◌^◌, if◌then◌else◌, slice_index, ◌||◌}
 use Rattle.std.proofs.lemmas.Bool.{cases_eq}
 use mathlib.Core.Option.{some}
 use lib.ListN.{get_elem?}
@@ -21,14 +21,19 @@ use Rattle.step_laws.proofs.Woven.{woven, history_tail, own_other, loader_op, Be
 use Rattle.step_laws.proofs.Along.{permits_loader, silent_own}
 use Rattle.step_laws.proofs.Histories.{booted, joined_law, trace_law, trace_begun, Listed, listed}
 use Rattle.machine_model.specs.State.{Setup}
+use Rattle.turn_pieces.specs.Shared.{IsShared}
+use Rattle.step_laws.specs.Steps.{IsConsistent}
+use Rattle.run_laws.proofs.Sees.{value_small}
 use Rattle.step_laws.specs.Words.{console_places}
 use Rattle.machine_model.specs.Run.{state_of}
-use Rattle.run_laws.specs.Placed.{Placed, placed, steps}
-use Rattle.run_laws.specs.Fits.{mode_named}
-use Rattle.run_laws.specs.Begun.{IsLoaded}
-use Rattle.run_laws.specs.Pieces.{IsActing, IsIdle, IsTurns, none}
-use Rattle.run_laws.specs.Composition.{Composed, Full, byte}
-use Rattle.run_laws.specs.Ended.{IsTurned, IsEnded, IsRead, JoinedComposition}
+use Rattle.run_laws.proofs.Placed.{Placed, placed, steps}
+use Rattle.turn_pieces.specs.Shared.{mode_named}
+use Rattle.run_laws.proofs.Begun.{IsLoaded}
+use Rattle.run_laws.proofs.Pieces.{IsActing, IsIdle, IsTurns, none}
+use Rattle.run_laws.specs.Ended.{IsFilled as Full, byte_at as byte}
+use Rattle.run_laws.proofs.Composition.{Composed}
+use Rattle.run_laws.proofs.Ended.{IsTurned, IsRead, JoinedComposition}
+use Rattle.run_laws.specs.Ended.{IsEnded}
 use Rattle.run_laws.proofs.Compose.{composition}
 
 -- the loader's steps are loads of word 0
@@ -153,13 +158,10 @@ module _ (u : Setup) (words : List ℕ) (records : List Record) (given : ℕ →
   given_here k r e ne = record_here r.actor ne ∙ ap (λ (t : Bool). listed_record t r.actor) (listed_there records k r e)
 
 pub joined_composition : JoinedComposition
-joined_composition u words records given limits j image small turned first = (c.run, ended, read)
+joined_composition u words records given limits j image absent turned is_booted = (c.run, ended, read)
   where
     base : (runs : ℕ → Bool) × IsHistory u.layout runs j.steps
     base = joined_law u.layout words records limits j
-
-    is_booted : IsBooted u.layout (own_steps loader j.steps)
-    is_booted = booted u.layout (base.0 loader) (own_steps loader j.steps) limits.harts (base.1.disciplined loader) (j.begun first.0 first.1 first.2 first.3)
 
     runs : ℕ → Bool
     runs = initial_runs u.layout base.0 j.steps
@@ -183,12 +185,23 @@ joined_composition u words records given limits j image small turned first = (c.
     p : Parted j.steps
     p = parted u.layout runs j.steps history
 
+    boot_steps : (h boot : List Step) → IsConsistent u.layout (h ++ boot) → IsConsistent u.layout boot
+    boot_steps [] boot k = k
+    boot_steps (s ∷ h) boot k = boot_steps h boot k.3
+
+    image_is : (x : ℕ) → IsShared (name_of x) → value_at x p.boot ≡ u.image x
+    image_is x s = sym (ap (value_at x) (silent_own p.boot p.alone)) ∙ (sym (value_before x p.h p.boot p.rests) ∙ (ap (λ l. value_at x (own_steps loader l)) (sym p.whole) ∙ image x s))
+
+    small : (x : ℕ) → IsShared (name_of x) ⊎ (u.image x ≡ 0) → u.image x < 2 ^ 64
+    small x (inl s) = subst (λ n. n < 2 ^ 64) (image_is x s) (value_small u runs p.boot (boot_steps p.h p.boot (subst (IsConsistent u.layout) p.whole j.consistent)) x)
+    small x (inr e) = omega (arith, e)
+
     loaded : IsLoaded u runs p.boot
     loaded = record {
       alone = p.alone;
       begun = let k = begins_before u.layout runs p.h p.boot p.rests (subst (λ l. Begins u.layout runs (own_steps loader l)) p.whole (begun.booted, begun.ran)) in record { booted = k.0; ran = k.1 };
-      image = λ x s. sym (ap (value_at x) (silent_own p.boot p.alone)) ∙ (sym (value_before x p.h p.boot p.rests) ∙ (ap (λ l. value_at x (own_steps loader l)) (sym p.whole) ∙ image x s));
-      small = small;
+      image = image_is;
+      small = λ x. small x (absent x);
     }
 
     c : Composed u p.boot p.h (record_of u words records given limits j turned p.h p.boot p.whole p.alone p.rests)
@@ -208,13 +221,14 @@ joined_composition u words records given limits j image small turned first = (c.
     place_there : (i b : ℕ) → byte (state_of u c.run).output i ≡ Some b → number_of (Console i) < words_of u.layout
     place_there i b e = let x = byte_within (state_of u c.run).output i b e in let y = full_most (value_at (number_of Cons) (p.h ++ p.boot)) (length (state_of u c.run).output) c.output_is in omega (arith, x, y)
 
-    read : IsRead j.steps records given c.run
+    read : IsRead u j.steps records given c.run
     read = record {
       all = c.reads.all;
       boot = p.boot;
       order = p.whole ∙ ap (λ l. l ++ p.boot) (sym c.reads.order);
       own = λ k r e ne. c.reads.kept r.actor ∙ given_here u words records given limits j turned p.h p.boot p.whole p.alone p.rests k r e ne;
       events = c.reads.events;
+      told = c.told;
     }
 
     ended : IsEnded u words c.run

@@ -31,11 +31,16 @@ use Rattle.machine_model.specs.Lawful.{IsAllowed, AllowedFor, WalksMade, Flushin
 use Rattle.machine_model.proofs.Uniform.{run_length, has_more}
 use Rattle.run_laws.proofs.Asked.{fence_law}
 use Rattle.run_laws.proofs.Stepping.{stop_law}
-use Rattle.run_laws.specs.Placed.{Placed, placed, steps, run_of, mine, By, found}
-use Rattle.run_laws.specs.Shown.{IsShown, ShownFor, ShownMade, reads_of}
-use Rattle.run_laws.specs.Kept.{part_at, script_of, was_last}
-use Rattle.run_laws.specs.Accounts.{AreQuiet}
-use Rattle.run_laws.specs.Fits.{IsShared, mode_named, runs_first, Sees, FetchedAt, AskedFor, FencesShown, FitsFetch, FitsExec, FitsGiveUp, FitsInterrupt, FitsStart, FitsStop, Fits}
+use Rattle.run_laws.proofs.Placed.{Placed, placed, steps, run_of, mine, By}
+use Rattle.walk_laws.specs.WalkLoads.{found}
+use Rattle.run_laws.proofs.Shown.{IsShown, ShownFor, ShownMade}
+use Rattle.walk_laws.specs.WalkLoads.{reads_of}
+use Rattle.run_laws.proofs.Kept.{part_at}
+use Rattle.turn_pieces.specs.Folds.{script_of, was_last}
+use Rattle.run_laws.proofs.Accounts.{AreQuiet}
+use Rattle.turn_pieces.specs.Shared.{IsShared, mode_named}
+use Rattle.run_laws.proofs.Fits.{runs_first, Sees, AskedFor, FencesShown, FitsFetch, FitsExec, FitsGiveUp, FitsInterrupt, FitsStart, FitsStop, Fits}
+use Rattle.turn_pieces.specs.Right.{FetchedAt}
 use Rattle.run_laws.proofs.Beginning.{IsBegun, history}
 use Rattle.run_laws.proofs.States.{harts_there, gift, modes_quiet}
 use Rattle.run_laws.proofs.Modes.{mode_answered, modes_of, actor_of_step}
@@ -43,7 +48,7 @@ use Rattle.run_laws.proofs.Gifts.{quiet_starts, gifts_none, gift_at, value_of}
 use Rattle.run_laws.proofs.Waits.{waiting_of, two_of, passes_none}
 use Rattle.run_laws.proofs.Output.{room_of, await_of}
 use Rattle.run_laws.proofs.Weave.{mine_here, behind}
-use Rattle.run_laws.specs.Pieces.{Told}
+use Rattle.run_laws.proofs.Pieces.{Told}
 use Rattle.run_laws.proofs.Shared.{quiet_entry}
 use Rattle.run_laws.proofs.Agree.{history_tail, own_history, mem, mem_quiet}
 use Rattle.run_laws.proofs.Own.{owned, part_of_run, last_of_run, script_of_run, script_is}

@@ -19,12 +19,14 @@ use Rattle.machine_model.specs.Event.{Event, did_of, actor_of}
 use Rattle.machine_model.specs.State.{Setup, mode_of, is_started}
 use Rattle.machine_model.specs.Run.{state_of}
 use Rattle.machine_model.proofs.Uniform.{run_length}
-use Rattle.run_laws.specs.Placed.{Placed, run_of, mine, By}
-use Rattle.run_laws.specs.Fits.{IsShared, mode_named, runs_first}
-use Rattle.run_laws.specs.Accounts.{AreQuiet, IsCalm, begins, Accounts, calm, writes, writes_half, writes_rest, draws, fills, draws_none, draws_more, fills_more, fills_last, ends, takes, gives_start, gives_opaque, lets, begins_here, leaves_here}
+use Rattle.run_laws.proofs.Placed.{Placed, run_of, mine, By}
+use Rattle.turn_pieces.specs.Shared.{IsShared, mode_named}
+use Rattle.run_laws.proofs.Fits.{runs_first}
+use Rattle.run_laws.proofs.Accounts.{AreQuiet, Accounts, calm, writes, writes_half, writes_rest, draws, fills, draws_none, draws_more, fills_more, fills_last, ends, takes, gives_start, gives_opaque, lets, begins_here, leaves_here}
+use Rattle.turn_pieces.specs.Doing.{IsCalm, begins}
 use Rattle.run_laws.proofs.Beginning.{IsBegun, history}
 use Rattle.run_laws.proofs.Used.{IsOpening}
-use Rattle.run_laws.specs.Pieces.{Told, IsIdleStep}
+use Rattle.run_laws.proofs.Pieces.{Told, IsIdleStep}
 use Rattle.run_laws.proofs.Weave.{behind}
 use Rattle.run_laws.proofs.States.{mode_next, started_mode, mode_after, mode_none, modes_quiet, harts_there}
 use Rattle.run_laws.proofs.Shared.{mk, Still, value_still, value_other}

@@ -22,14 +22,18 @@ use Rattle.machine_model.specs.Change.{printed}
 use Rattle.machine_model.specs.Perform.{room}
 use Rattle.step_laws.specs.Words.{console_places}
 use Rattle.machine_model.specs.Run.{state_of}
-use Rattle.run_laws.specs.Placed.{Placed, placed, steps, run_of, mine}
-use Rattle.run_laws.specs.Kept.{some_bytes, has_bytes, drawn, drawn_next, first_drawn, stored_bytes}
-use Rattle.run_laws.specs.Fits.{IsShared, FitsAwait}
-use Rattle.run_laws.specs.Accounts.{AreQuiet, IsCalm, IsSectional, Fills, Accounts, calm, writes, writes_half, writes_rest, draws, fills, draws_none, draws_more, fills_more, fills_last, ends, takes, gives_start, gives_opaque, lets, begins_here, leaves_here}
+use Rattle.run_laws.proofs.Placed.{Placed, placed, steps, run_of, mine}
+use Rattle.turn_pieces.specs.Folds.{some_bytes, drawn_next}
+use Rattle.run_laws.proofs.Kept.{has_bytes, drawn, stored_bytes}
+use Rattle.turn_pieces.specs.Doing.{first_drawn}
+use Rattle.turn_pieces.specs.Shared.{IsShared}
+use Rattle.run_laws.proofs.Fits.{FitsAwait}
+use Rattle.run_laws.proofs.Accounts.{AreQuiet, IsSectional, Accounts, calm, writes, writes_half, writes_rest, draws, fills, draws_none, draws_more, fills_more, fills_last, ends, takes, gives_start, gives_opaque, lets, begins_here, leaves_here}
+use Rattle.turn_pieces.specs.Doing.{IsCalm, Fills}
 use Rattle.run_laws.proofs.Beginning.{IsBegun, history}
-use Rattle.run_laws.specs.Composition.{Full}
+use Rattle.run_laws.specs.Ended.{IsFilled as Full}
 use Rattle.run_laws.proofs.Weave.{by_mine, mine_here, mine_other}
-use Rattle.run_laws.specs.Pieces.{Told, IsIdleStep}
+use Rattle.run_laws.proofs.Pieces.{Told, IsIdleStep}
 use Rattle.run_laws.proofs.States.{output_quiet}
 use Rattle.run_laws.proofs.Shared.{Still, value_still, value_other}
 use Rattle.run_laws.proofs.Agree.{history_tail, own_history}

@@ -12,10 +12,11 @@ use Rattle.machine_model.specs.Change.{ends_line}
 use Rattle.machine_model.specs.Run.{state_of, last_of, is_of}
 use Rattle.machine_model.specs.Own.{own_of}
 use Rattle.machine_model.proofs.Owned.{own_is_own}
-use Rattle.run_laws.specs.Placed.{Placed, run_of, mine, By}
-use Rattle.run_laws.specs.Kept.{part_at, script_of}
-use Rattle.run_laws.specs.Fits.{AllFit}
-use Rattle.run_laws.specs.Pieces.{Told}
+use Rattle.run_laws.proofs.Placed.{Placed, run_of, mine, By}
+use Rattle.run_laws.proofs.Kept.{part_at}
+use Rattle.turn_pieces.specs.Folds.{script_of}
+use Rattle.run_laws.proofs.Fits.{AllFit}
+use Rattle.run_laws.proofs.Pieces.{Told}
 
 -- every event is of the actor of its step
 abbrev pub Owned : List Placed → Type 0

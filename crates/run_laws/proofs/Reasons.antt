@@ -16,12 +16,14 @@ use Rattle.machine_model.specs.Event.{Event, did_of}
 use Rattle.machine_model.specs.State.{Setup}
 use Rattle.machine_model.specs.Change.{first_reason}
 use Rattle.machine_model.specs.Run.{state_of}
-use Rattle.run_laws.specs.Placed.{Placed, run_of}
-use Rattle.run_laws.specs.Accounts.{AreQuiet, IsCalm, reason_number, Accounts, calm, writes, writes_half, writes_rest, draws, fills, draws_none, draws_more, fills_more, fills_last, ends, takes, gives_start, gives_opaque, lets, begins_here, leaves_here}
-use Rattle.run_laws.specs.Fits.{IsShared}
+use Rattle.run_laws.proofs.Placed.{Placed, run_of}
+use Rattle.run_laws.proofs.Accounts.{AreQuiet, Accounts, calm, writes, writes_half, writes_rest, draws, fills, draws_none, draws_more, fills_more, fills_last, ends, takes, gives_start, gives_opaque, lets, begins_here, leaves_here}
+use Rattle.turn_pieces.specs.Doing.{IsCalm}
+use Rattle.machine_model.specs.ReasonWords.{reason_word}
+use Rattle.turn_pieces.specs.Shared.{IsShared}
 use Rattle.run_laws.proofs.Beginning.{IsBegun, history}
-use Rattle.run_laws.specs.Composition.{stop_number}
-use Rattle.run_laws.specs.Pieces.{Told}
+use Rattle.run_laws.specs.Ended.{stop_number}
+use Rattle.run_laws.proofs.Pieces.{Told}
 use Rattle.run_laws.proofs.States.{reason_quiet}
 use Rattle.run_laws.proofs.Shared.{mk, Still, value_still, value_other}
 use Rattle.run_laws.proofs.Agree.{history_tail}
@@ -34,7 +36,7 @@ IsStopWord _ = ⊥
 data Says (w : Word) (op : WordOp) (arg : ℕ) (answer : ℕ) : List Event → Type 0 where
   silent : {es : List Event} → (IsStopWord w → Still op answer) → AreQuiet es → Says w op arg answer es
   other : {e : Event} {es : List Event} → (IsStopWord w → ⊥) → (did_of e).reason ≡ None → AreQuiet es → Says w op arg answer (e ∷ es)
-  says : {e : Event} {es : List Event} (reason : Reason) → w ≡ Stop → op ≡ Exchange 0 → arg ≡ reason_number reason → (did_of e).reason ≡ Some reason → AreQuiet es → Says w op arg answer (e ∷ es)
+  says : {e : Event} {es : List Event} (reason : Reason) → w ≡ Stop → op ≡ Exchange 0 → arg ≡ reason_word reason → (did_of e).reason ≡ Some reason → AreQuiet es → Says w op arg answer (e ∷ es)
 
 calm_stop : (w : Word) (op : WordOp) (answer : ℕ) → IsStopWord w → IsCalm w op answer → Still op answer
 calm_stop Stop Load answer s c = tt
@@ -64,7 +66,7 @@ says_of (lets h q) = silent (λ s. absurd s) q
 says_of (begins_here h q) = other (λ s. s) refl q
 says_of (leaves_here h d b q) = other (λ s. s) d.reason_is q
 
-some_reason : (reason : Reason) → reason_number reason ≢ 0
+some_reason : (reason : Reason) → reason_word reason ≢ 0
 some_reason Reason.Pass e = cc
 some_reason (Reason.Fail code) e = omega (arith, e)
 some_reason (Reason.Limit h) e = omega (arith, e)
@@ -72,9 +74,9 @@ some_reason Reason.OutFull e = cc
 some_reason Reason.AllStopped e = cc
 some_reason Reason.Stopped e = cc
 
-ended : (old : Option Reason) (reason : Reason) → new_of (Exchange 0) (stop_number old) (reason_number reason) ≡ stop_number (first_reason old (Some reason))
+ended : (old : Option Reason) (reason : Reason) → new_of (Exchange 0) (stop_number old) (reason_word reason) ≡ stop_number (first_reason old (Some reason))
 ended None reason = refl
-ended (Some old) reason = ap (λ b. either b (reason_number reason) (reason_number old)) (ne_eqb (reason_number old) 0 (some_reason old))
+ended (Some old) reason = ap (λ b. either b (reason_word reason) (reason_word old)) (ne_eqb (reason_word old) 0 (some_reason old))
 
 module _ (u : Setup) (boot : List Step) (runs : ℕ → Bool) (begun : IsBegun u boot) where
   value_stop : (c n : ℕ) (op : WordOp) (arg answer : ℕ) (ts : List Placed) → answer ≡ answer_of op (value_at n (history boot ts)) → (IsStopWord (name_of n) → Still op answer)

@@ -7,9 +7,9 @@ use Rattle.step_laws.specs.Map.{Place, Lock, Stop, Cons, name_of}
 use Rattle.step_laws.specs.Past.{here, past}
 use Rattle.step_laws.specs.Places.{last_load, last_load_next}
 use Rattle.step_laws.proofs.Named.{same_refl}
-use Rattle.run_laws.specs.Placed.{Placed, steps}
-use Rattle.run_laws.specs.Acks.{Makes, IsFlushed, Acks}
-use Rattle.run_laws.specs.Filling.{filled, filled_next, within, ended, may_draw, may_draw_next, Drawing}
+use Rattle.run_laws.proofs.Placed.{Placed, steps}
+use Rattle.run_laws.proofs.Acks.{Makes, IsFlushed, Acks}
+use Rattle.turn_pieces.specs.Draws.{filled, filled_next, within, ended, may_draw, may_draw_next, Drawing}
 
 -- a target that loads the request q, takes the lock, stores 0 there with its flush, and acks
 served_ack : (a s k q : ℕ) (fetch lock unlock : Placed) (r : List Placed)

@@ -20,12 +20,13 @@ use Rattle.machine_model.specs.Memory.{StoreEntry, write_of}
 use Rattle.machine_model.specs.Event.{Event, did_of}
 use Rattle.machine_model.specs.State.{Setup, memory}
 use Rattle.machine_model.specs.Run.{state_of}
-use Rattle.run_laws.specs.Placed.{Placed, placed, steps, run_of, mine, has_entry}
-use Rattle.run_laws.specs.Kept.{held_at, held_next}
-use Rattle.run_laws.specs.Fits.{IsShared}
+use Rattle.run_laws.proofs.Placed.{Placed, placed, steps, run_of, mine, has_entry}
+use Rattle.run_laws.proofs.Kept.{held_at}
+use Rattle.turn_pieces.specs.Folds.{held_next}
+use Rattle.turn_pieces.specs.Shared.{IsShared}
 use Rattle.run_laws.proofs.Beginning.{IsBegun, history}
 use Rattle.run_laws.proofs.Weave.{by_mine}
-use Rattle.run_laws.specs.Pieces.{Told}
+use Rattle.run_laws.proofs.Pieces.{Told}
 use Rattle.run_laws.proofs.Shared.{Way, rests, one, first, second, way_of, NoEntry, has_none}
 use Rattle.run_laws.proofs.Agree.{agrees_of, history_tail, own_history, mem, mem_quiet, mem_entry}
 use Rattle.run_laws.proofs.Stands.{acts_of, answered_now}
@@ -43,7 +44,7 @@ new_small Min old arg p q = grind (arith, p, q)
 new_small Max old arg p q = grind (arith, p, q)
 new_small (Exchange e) old arg p q = by_test old e (λ b. either b arg old < 2 ^ 64) (λ _. q) (λ _. p)
 
-value_small : (u : Setup) (runs : ℕ → Bool) (h : List Step) → IsConsistent u.layout h → (x : ℕ) → value_at x h < 2 ^ 64
+pub value_small : (u : Setup) (runs : ℕ → Bool) (h : List Step) → IsConsistent u.layout h → (x : ℕ) → value_at x h < 2 ^ 64
 value_small u runs [] c x = omega arith
 value_small u runs (s ∷ h) c x = by_test x s.word (λ b. (if b then new_of s.op (value_at x h) s.arg else value_at x h) < 2 ^ 64)
     (λ _. new_small s.op (value_at x h) s.arg (value_small u runs h c.3 x) c.0.arg) (λ _. value_small u runs h c.3 x)

@@ -15,10 +15,11 @@ use Rattle.machine_model.specs.Event.{Event}
 use Rattle.machine_model.specs.State.{Setup}
 use Rattle.machine_model.specs.Run.{leaves, says_all_stopped}
 use Rattle.machine_model.proofs.Uniform.{Passing, has_more}
-use Rattle.run_laws.specs.Placed.{Placed, steps, run_of, mine}
-use Rattle.run_laws.specs.Kept.{was_last, last_next}
-use Rattle.run_laws.specs.Accounts.{AreQuiet, Accounts, calm, writes, writes_half, writes_rest, draws, fills, draws_none, draws_more, fills_more, fills_last, ends, takes, gives_start, gives_opaque, lets, begins_here, leaves_here}
-use Rattle.run_laws.specs.Pieces.{IsTurns, none, turn, looks, IsIdle, IsActing, IsUncount, Said, Told}
+use Rattle.run_laws.proofs.Placed.{Placed, steps, run_of, mine}
+use Rattle.turn_pieces.specs.Folds.{was_last, last_next}
+use Rattle.run_laws.proofs.Accounts.{AreQuiet, Accounts, calm, writes, writes_half, writes_rest, draws, fills, draws_none, draws_more, fills_more, fills_last, ends, takes, gives_start, gives_opaque, lets, begins_here, leaves_here}
+use Rattle.run_laws.proofs.Pieces.{IsTurns, none, turn, looks, IsIdle, IsActing, Said, Told}
+use Rattle.turn_pieces.specs.Folds.{IsUncount}
 use Rattle.run_laws.proofs.Beginning.{history}
 use Rattle.run_laws.proofs.Used.{IsHalt, NoneSince}
 use Rattle.run_laws.proofs.Waits.{any_since}

@@ -12,10 +12,11 @@ use Rattle.step_laws.proofs.Named.{by_test}
 use Rattle.machine_model.specs.Memory.{StoreEntry, write_of}
 use Rattle.machine_model.specs.Event.{Event, did_of}
 use Rattle.machine_model.specs.State.{Setup}
-use Rattle.run_laws.specs.Placed.{Placed, placed, steps, has_entry}
-use Rattle.run_laws.specs.Kept.{Half, whole, part, half, half_next}
-use Rattle.run_laws.specs.Fits.{IsShared}
-use Rattle.run_laws.specs.Accounts.{AreQuiet, IsCalm, Accounts, calm, writes, writes_half, writes_rest, draws, fills, draws_none, draws_more, fills_more, fills_last, ends, takes, gives_start, gives_opaque, lets, begins_here, leaves_here}
+use Rattle.run_laws.proofs.Placed.{Placed, placed, steps, has_entry}
+use Rattle.run_laws.proofs.Kept.{Half, whole, part, half, half_next}
+use Rattle.turn_pieces.specs.Shared.{IsShared}
+use Rattle.run_laws.proofs.Accounts.{AreQuiet, Accounts, calm, writes, writes_half, writes_rest, draws, fills, draws_none, draws_more, fills_more, fills_last, ends, takes, gives_start, gives_opaque, lets, begins_here, leaves_here}
+use Rattle.turn_pieces.specs.Doing.{IsCalm}
 
 abbrev pub mk : (c n : ℕ) → WordOp → (arg answer : ℕ) → Step
 mk c n op arg answer = record { actor = c; word = n; op = op; arg = arg; answer = answer }

@@ -15,12 +15,13 @@ use Rattle.machine_model.specs.Event.{Event, actor_of}
 use Rattle.machine_model.specs.State.{Setup}
 use Rattle.machine_model.specs.Run.{is_of, renews}
 use Rattle.machine_model.proofs.Uniform.{Passing, renews_other}
-use Rattle.run_laws.specs.Placed.{Placed, placed, run_of, mine, By, Found, Loads, Stood}
-use Rattle.run_laws.specs.Kept.{half, whole}
-use Rattle.run_laws.specs.Fits.{IsShared}
+use Rattle.run_laws.proofs.Placed.{Placed, placed, run_of, mine, By, Stood}
+use Rattle.walk_laws.specs.WalkLoads.{Found, Loads}
+use Rattle.run_laws.proofs.Kept.{half, whole}
+use Rattle.turn_pieces.specs.Shared.{IsShared}
 use Rattle.run_laws.proofs.Beginning.{IsBegun, history}
 use Rattle.run_laws.proofs.Weave.{by_mine}
-use Rattle.run_laws.specs.Pieces.{Told, Right, IsIdleStep}
+use Rattle.run_laws.proofs.Pieces.{Told, Right, IsIdleStep}
 use Rattle.run_laws.proofs.Shared.{Way, rests, one, first, second, way_of}
 use Rattle.run_laws.proofs.Agree.{agrees_of, settled, ram_actor, history_tail, mem}
 use Rattle.run_laws.proofs.Own.{Owned, owned}

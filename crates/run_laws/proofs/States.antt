@@ -14,7 +14,8 @@ use Rattle.machine_model.specs.Run.{state_of}
 use Rattle.machine_model.proofs.Uniform.{run_length}
 use Rattle.rv64_exec.specs.Code.{Code}
 use Rattle.rv64_priv.specs.declared.state.Kind.{Kind}
-use Rattle.run_laws.specs.Accounts.{AreQuiet, begins}
+use Rattle.run_laws.proofs.Accounts.{AreQuiet}
+use Rattle.turn_pieces.specs.Doing.{begins}
 
 -- entries
 pub entries_none : (e : Event) (s : State) → (did_of e).entry ≡ None → (state_after e s).entries ≡ s.entries

@@ -20,8 +20,8 @@ use Rattle.step_laws.proofs.Woven.{woven as steps_woven, history_tail as tail_of
 use Rattle.step_laws.proofs.Along.{permits_loader}
 use Rattle.step_laws.proofs.Apart.{section_law as apart_law}
 use Rattle.step_laws.proofs.Halting.{states, stop_law as ended_law, settled_law}
-use Rattle.run_laws.specs.Kept.{is_waiting, was_last, last_next}
-use Rattle.run_laws.specs.Pieces.{IsUncount}
+use Rattle.turn_pieces.specs.Folds.{is_waiting, was_last, last_next}
+use Rattle.turn_pieces.specs.Folds.{IsUncount}
 use Rattle.run_laws.proofs.Used.{SectionLaw, StopLaw, IsOpening, IsHalt, NoneSince}
 
 -- each step is lawful after the steps before it, by the words' numbers

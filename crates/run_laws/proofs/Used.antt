@@ -16,11 +16,12 @@ use Rattle.rv64_priv.specs.Flush.{Flush}
 use Rattle.machine_model.specs.Event.{Event}
 use Rattle.machine_model.specs.State.{Setup}
 use Rattle.machine_model.specs.Lawful.{Flushed}
-use Rattle.run_laws.specs.Placed.{Placed, placed, run_of, mine}
-use Rattle.run_laws.specs.Kept.{was_last, is_waiting}
-use Rattle.run_laws.specs.Fits.{AskedFor}
-use Rattle.run_laws.specs.Accounts.{AreQuiet}
-use Rattle.run_laws.specs.Pieces.{Told, IsUncount}
+use Rattle.run_laws.proofs.Placed.{Placed, placed, run_of, mine}
+use Rattle.turn_pieces.specs.Folds.{was_last, is_waiting}
+use Rattle.run_laws.proofs.Fits.{AskedFor}
+use Rattle.run_laws.proofs.Accounts.{AreQuiet}
+use Rattle.run_laws.proofs.Pieces.{Told}
+use Rattle.turn_pieces.specs.Folds.{IsUncount}
 use Rattle.run_laws.proofs.Beginning.{history}
 
 -- the words that are touched only inside or in section

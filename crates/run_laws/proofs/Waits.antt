@@ -21,11 +21,12 @@ use Rattle.machine_model.specs.Event.{Event, did_of}
 use Rattle.machine_model.specs.State.{Setup, hart, initial}
 use Rattle.machine_model.specs.Run.{state_of, starts_hart, is_target, flushes}
 use Rattle.machine_model.proofs.Uniform.{Passing, has_more, run_length}
-use Rattle.run_laws.specs.Placed.{Placed, steps, run_of, mine}
-use Rattle.run_laws.specs.Kept.{handed_word, handed_next, is_waiting, flushed_waiting, flushed_next}
-use Rattle.run_laws.specs.Fits.{runs_first}
+use Rattle.run_laws.proofs.Placed.{Placed, steps, run_of, mine}
+use Rattle.run_laws.proofs.Kept.{handed_word, flushed_waiting}
+use Rattle.turn_pieces.specs.Folds.{handed_next, is_waiting, flushed_next}
+use Rattle.run_laws.proofs.Fits.{runs_first}
 use Rattle.run_laws.proofs.Beginning.{IsBegun, history}
-use Rattle.run_laws.specs.Pieces.{Told, IsIdleStep}
+use Rattle.run_laws.proofs.Pieces.{Told, IsIdleStep}
 use Rattle.run_laws.proofs.Weave.{behind}
 use Rattle.run_laws.proofs.States.{gift, gift_next, gift_after, harts_there}
 use Rattle.run_laws.proofs.Agree.{history_tail, own_history}

@@ -19,9 +19,10 @@ use Rattle.rv64_priv.specs.Reads.{answering, Finds}
 use Rattle.machine_model.specs.Lawful.{IsAllowed}
 use Rattle.machine_model.proofs.Uniform.{Passing, since_more}
 use Rattle.machine_model.proofs.Reading.{found_is_allowed}
-use Rattle.run_laws.specs.Placed.{Found, found, Spares}
-use Rattle.run_laws.specs.Shown.{reads_from, reads_of}
-use Rattle.run_laws.specs.Fits.{IsShared}
+use Rattle.walk_laws.specs.WalkLoads.{Found, found}
+use Rattle.run_laws.proofs.Placed.{Spares}
+use Rattle.walk_laws.specs.WalkLoads.{reads_from, reads_of}
+use Rattle.turn_pieces.specs.Shared.{IsShared}
 
 pub since_then : (stop : Event → Bool) (a b c : List Event) → Since stop a b → Since stop b c → Since stop a c
 since_then stop a b c p now = p

@@ -9,16 +9,16 @@ use Rattle.step_laws.specs.Steps.{own_steps}
 use Rattle.step_laws.proofs.Named.{by_test}
 use Rattle.step_laws.proofs.Woven.{own_here, own_other}
 use Rattle.machine_model.specs.State.{Setup}
-use Rattle.run_laws.specs.Placed.{Placed, steps, mine, has_entry}
-use Rattle.run_laws.specs.Kept.{half, half_next, whole}
-use Rattle.run_laws.specs.Accounts.{Accounts, calm}
-use Rattle.run_laws.specs.Fits.{AllFit, runs_first}
+use Rattle.run_laws.proofs.Placed.{Placed, steps, mine, has_entry}
+use Rattle.run_laws.proofs.Kept.{half, half_next, whole}
+use Rattle.run_laws.proofs.Accounts.{Accounts, calm}
+use Rattle.run_laws.proofs.Fits.{AllFit, runs_first}
 use Rattle.run_laws.proofs.Beginning.{IsBegun, history}
-use Rattle.run_laws.specs.Acks.{Acks}
-use Rattle.run_laws.specs.Filling.{filled, filled_next, beyond, Drawing}
+use Rattle.run_laws.proofs.Acks.{Acks}
+use Rattle.turn_pieces.specs.Draws.{filled, filled_next, beyond, Drawing}
 use Rattle.step_laws.specs.Histories.{IsBegun as HasBegun}
 use Rattle.step_laws.proofs.Woven.{Begins, begins_more}
-use Rattle.run_laws.specs.Pieces.{IsPlaced, IsPart, IsTurns, none, turn, looks, IsIdle, IsActing, Right, Told, IsIdleStep}
+use Rattle.run_laws.proofs.Pieces.{IsPlaced, IsPart, IsTurns, none, turn, looks, IsIdle, IsActing, Right, Told, IsIdleStep}
 
 pub by_mine : (P : ℕ → List Placed → Type 0) (b : ℕ) (t : Placed) (ts : List Placed)
     → P t.step.actor (t ∷ mine t.step.actor ts) → (b ≢ t.step.actor → P b (mine b ts)) → P b (mine b (t ∷ ts))

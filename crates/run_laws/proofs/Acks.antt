@@ -10,11 +10,8 @@ use Rattle.step_laws.specs.Past.{Since, Anything}
 use Rattle.step_laws.specs.Places.{last_load}
 use Rattle.step_laws.specs.Discipline.{IsAway, IsFetch, IsDrain}
 use Rattle.machine_model.specs.Run.{flushes}
-use Rattle.run_laws.specs.Placed.{Placed, steps}
-
--- what a request asks for: everything, or its pages
-abbrev pub flush_of : ℕ → Flush
-flush_of q = if request_kind q == 1 then Full else Pages (request_page q) (request_count q)
+use Rattle.run_laws.proofs.Placed.{Placed, steps}
+use Rattle.turn_pieces.specs.Requests.{flush_of}
 
 -- an event of t at this step flushes all that the request asks for
 abbrev pub Makes : (t q : ℕ) → Placed → Type 0

@@ -3,6 +3,8 @@ use Rattle.std.specs.Prelude.{◌≡◌, ◌⊎◌, ℕ, ◌==◌, if◌then◌e
 use Rattle.step_laws.specs.declared.steps.Step.{Step}
 use Rattle.step_laws.specs.declared.steps.WordOp.TheVariants.{Load}
 use Rattle.machine_model.specs.Event.{Event, actor_of, entry_stored}
+use Rattle.walk_laws.specs.WalkLoads.{Found, Loads}
+use Rattle.turn_pieces.specs.Log.{made, did, Log}
 
 pub record Placed : Type 0 where
   pub step : Step
@@ -35,17 +37,6 @@ abbrev pub By : ℕ → List Event → Type 0
 By a [] = Unit {0}
 By a (e ∷ es) = (actor_of e ≡ a) × By a es
 
--- what a load found
-pub record Found : Type 0 where
-  pub word : ℕ
-  pub value : ℕ
-
-abbrev pub found : (word value : ℕ) → Found
-found word value = record { word = word; value = value }
-
-abbrev pub Loads : Found → Step → Type 0
-Loads x s = (s.word ≡ x.word) × (s.op ≡ Load) × (s.answer ≡ x.value)
-
 -- these words were loaded so in this order, the last one first in the list, and since the first of these loads no event that
 -- passes the test was placed
 abbrev pub Stood : (Event → Bool) → List Found → List Placed → Type 0
@@ -57,3 +48,13 @@ Stood stop (x ∷ xs) (t ∷ p) = Spares stop t.events × ((Loads x t.step × St
 abbrev pub has_entry : List Event → Bool
 has_entry [] = false
 has_entry (e ∷ es) = is_some (entry_stored e) || has_entry es
+
+-- a log as such a record: each event at the step before it
+abbrev pub with_event : Event → List Placed → List Placed
+with_event e [] = []
+with_event e (t ∷ r) = placed t.step (e ∷ t.events) ∷ r
+
+abbrev pub placed_of : Log → List Placed
+placed_of [] = []
+placed_of (made s ∷ l) = placed s [] ∷ placed_of l
+placed_of (did e ∷ l) = with_event e (placed_of l)

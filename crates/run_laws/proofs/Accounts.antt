@@ -10,53 +10,16 @@ use Rattle.machine_model.specs.Memory.{StoreEntry, write_of}
 use Rattle.machine_model.specs.Event.{Event, Starting, Start as Begin, did_of}
 use Rattle.machine_model.specs.State.{Setup}
 use Rattle.step_laws.specs.Words.{console_places}
-use Rattle.run_laws.specs.Placed.{Placed, steps, run_of}
-use Rattle.run_laws.specs.Kept.{whole, part, half, drawn, first_drawn, stored_bytes, unstored}
-use Rattle.run_laws.specs.Fits.{IsShared}
-
--- what an event did beyond its hart's registers
-pub record Does (e : Event) (entry : Option StoreEntry) (bytes : List ℕ) (reason : Option Reason) (starts : Option Starting) (stops : Bool) : Type 0 where
-  pub entry_is : (did_of e).entry ≡ entry
-  pub bytes_are : (did_of e).bytes ≡ bytes
-  pub reason_is : (did_of e).reason ≡ reason
-  pub starts_is : (did_of e).starts ≡ starts
-  pub stops_is : (did_of e).stops ≡ stops
-
-abbrev pub begins : Event → Bool
-begins (Begin h at opaque) = true
-begins _ = false
-
--- nothing
-pub record IsQuiet (e : Event) : Type 0 where
-  pub does : Does e None [] None None false
-  pub begins_not : begins e ≡ false
+use Rattle.run_laws.proofs.Placed.{Placed, steps, run_of}
+use Rattle.run_laws.proofs.Kept.{whole, part, half, drawn, stored_bytes, unstored}
+use Rattle.turn_pieces.specs.Doing.{first_drawn}
+use Rattle.turn_pieces.specs.Shared.{IsShared}
+use Rattle.turn_pieces.specs.Doing.{Does, Fills, IsCalm, IsQuiet, begins, last_start}
+use Rattle.machine_model.specs.ReasonWords.{reason_word as reason_number}
 
 abbrev pub AreQuiet : List Event → Type 0
 AreQuiet [] = Unit {0}
 AreQuiet (e ∷ es) = IsQuiet e × AreQuiet es
-
--- the operation leaves what the reference machine has
-abbrev pub IsCalm : Word → WordOp → (answer : ℕ) → Type 0
-IsCalm (Ram i) Load answer = Unit {0}
-IsCalm (Ram i) (Exchange old) answer = old ≢ answer
-IsCalm (Ram i) _ answer = ⊥
-IsCalm Ipi Load answer = Unit {0}
-IsCalm Ipi (Exchange old) answer = old ≢ answer
-IsCalm Ipi _ answer = ⊥
-IsCalm Cons Load answer = Unit {0}
-IsCalm Cons _ answer = ⊥
-IsCalm (Console i) Load answer = Unit {0}
-IsCalm (Console i) _ answer = ⊥
-IsCalm Stop Load answer = Unit {0}
-IsCalm Stop _ answer = ⊥
-IsCalm (Hsm t) Load answer = Unit {0}
-IsCalm (Hsm t) (Exchange old) answer = old ≢ answer
-IsCalm (Hsm t) _ answer = ⊥
-IsCalm (Start t) Load answer = Unit {0}
-IsCalm (Start t) _ answer = ⊥
-IsCalm (Opaque t) Load answer = Unit {0}
-IsCalm (Opaque t) _ answer = ⊥
-IsCalm _ _ answer = Unit {0}
 
 -- the words by which an actor enters and leaves
 abbrev pub IsSectional : Word → Type 0
@@ -64,34 +27,11 @@ IsSectional (Run b) = Unit {0}
 IsSectional Pend = Unit {0}
 IsSectional _ = ⊥
 
--- the bytes of a call for which there was no room: as many as there were places
-pub record Fills (ds bytes : List ℕ) : Type 0 where
-  pub none : ds ≡ [] → bytes ≡ []
-  pub some : (i : ℕ) → first_drawn ds ≡ Some i → (length bytes ≡ console_places - i) × (console_places < i + length ds)
-
 -- an operation that writes its word, whatever it leaves there
 abbrev pub IsWrite : WordOp → (answer : ℕ) → Type 0
 IsWrite Load answer = ⊥
 IsWrite (Exchange old) answer = old ≡ answer
 IsWrite _ answer = Unit {0}
-
--- the number that STOP holds for a reason
-abbrev pub reason_number : Reason → ℕ
-reason_number Reason.Pass = 1
-reason_number (Reason.Fail code) = 2 + 2 ^ 8 * code
-reason_number (Reason.Limit h) = 3 + 2 ^ 8 * h
-reason_number Reason.OutFull = 4
-reason_number Reason.AllStopped = 5
-reason_number Reason.Stopped = 6
-
--- the last start that the actor's own events made
-abbrev pub newest : Option Starting → Option Starting → Option Starting
-newest None old = old
-newest (Some g) old = Some g
-
-abbrev pub last_start : List Event → Option Starting
-last_start [] = None
-last_start (e ∷ run) = newest (did_of e).starts (last_start run)
 
 -- by kind of step, with what stands on top of the record r; n is the word's number
 pub data Accounts (u : Setup) (a : ℕ) (r : List Placed) (n : ℕ) : Word → WordOp → (arg answer : ℕ) → List Event → Type 0 where

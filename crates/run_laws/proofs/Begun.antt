@@ -6,7 +6,7 @@ use Rattle.step_laws.specs.Map.{name_of}
 use Rattle.step_laws.specs.Histories.{IsBegun}
 use Rattle.step_laws.specs.Steps.{own_steps, value_at}
 use Rattle.machine_model.specs.State.{Setup}
-use Rattle.run_laws.specs.Fits.{IsShared}
+use Rattle.turn_pieces.specs.Shared.{IsShared}
 
 -- the loader's record of all its stores: the machine has begun behind it, and RAM and IPI are the image
 pub record IsLoaded (u : Setup) (runs : ℕ → Bool) (boot : List Step) : Type 0 where

@@ -25,21 +25,15 @@ use Rattle.step_laws.specs.Words.{console_places}
 use Rattle.machine_model.specs.Lawful.{is_pending}
 use Rattle.machine_model.specs.Run.{is_of, fetches, last_of, passes, leaves, is_snap_begin, is_due}
 use Rattle.machine_model.specs.Lawful.{Flushing, Flushed, flushing, NextLine}
-use Rattle.run_laws.specs.Placed.{Placed, placed, steps, run_of, Spares, found, Stood}
-use Rattle.run_laws.specs.Shown.{IsShown, ShownFor, ShownMade}
-use Rattle.run_laws.specs.Kept.{part_at, script_of, held_at, drawn, first_drawn, handed_word, flushed_waiting, was_last}
-
--- words that are the reference machine's memory too
-abbrev pub IsShared : Word → Type 0
-IsShared (Ram i) = Unit {0}
-IsShared Ipi = Unit {0}
-IsShared _ = ⊥
-
--- a hart's state as its HSM word says it
-abbrev pub mode_named : ℕ → Mode
-mode_named zero = Started
-mode_named (suc zero) = Halted
-mode_named _ = Pending
+use Rattle.run_laws.proofs.Placed.{Placed, placed, steps, run_of, Spares, Stood}
+use Rattle.walk_laws.specs.WalkLoads.{found}
+use Rattle.run_laws.proofs.Shown.{IsShown, ShownFor, ShownMade}
+use Rattle.run_laws.proofs.Kept.{part_at, held_at, drawn, handed_word, flushed_waiting}
+use Rattle.turn_pieces.specs.Folds.{script_of, was_last}
+use Rattle.turn_pieces.specs.Doing.{first_drawn}
+use Rattle.turn_pieces.specs.Right.{FetchedAt}
+use Rattle.turn_pieces.specs.Shared.{IsShared, mode_named}
+use Rattle.turn_pieces.specs.Requests.{Names}
 
 abbrev pub runs_first : ℕ → Bool
 runs_first a = a == 0
@@ -57,17 +51,7 @@ pub record Sees (u : Setup) (a : ℕ) (s : Step) (p : List Placed) (w : Surround
   -- a hart's state is what the step answered
   pub modes : (t : ℕ) → t < u.layout.harts → name_of s.word ≡ Hsm t → s.op ≢ Store → w.modes t ≡ mode_named s.answer
 
--- the code word that the step loaded; none where the walk faults
-abbrev pub FetchedAt : Step → (va : ℕ) → Walked → Code → Type 0
-FetchedAt s va (Leaf pte page level) code = (s.word ≡ ram_word (page + va % 4096)) × (s.op ≡ Load)
-    × (code.word ≡ s.answer / 256 ^ ((page + va % 4096) % 8) % 2 ^ 32) × Decodes code.word code.instr
-FetchedAt s va _ code = code ≡ no_code
-
 -- a request of the page, or of all, is posted at the place of t, and since then the actor fetched nothing
-abbrev pub Names : ℕ → Option ℕ → Type 0
-Names n None = request_kind n ≡ 1
-Names n (Some page) = (request_kind n ≡ 1) ⊎ ((request_kind n ≡ 2) × (request_page n ≤ page) × (page < request_page n + request_count n))
-
 abbrev pub Posted : (a t k : ℕ) → Option ℕ → List Placed → Type 0
 Posted a t k page [] = ⊥
 Posted a t k page (x ∷ p) = Spares (fetches a) x.events

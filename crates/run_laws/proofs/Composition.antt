@@ -10,32 +10,19 @@ use Rattle.machine_model.specs.State.{Setup, memory, mode_of}
 use Rattle.step_laws.specs.Words.{console_places}
 use Rattle.machine_model.specs.Run.{state_of}
 use Rattle.machine_model.specs.Lawful.{IsRun, IsSettled}
-use Rattle.run_laws.specs.Placed.{Placed, steps}
-use Rattle.run_laws.specs.Fits.{IsShared, mode_named}
-use Rattle.run_laws.specs.Accounts.{reason_number}
-use Rattle.run_laws.specs.Pieces.{IsActing, Reads}
-use Rattle.run_laws.specs.Begun.{IsLoaded}
-
--- STOP holds the number of the first reason, and 0 where there is none
-abbrev pub stop_number : Option Reason → ℕ
-stop_number None = 0
-stop_number (Some reason) = reason_number reason
-
--- the output is as long as places were drawn, up to the last place
-abbrev pub Full : (drawn printed : ℕ) → Type 0
-Full c o = ((c ≤ console_places) × (o ≡ c)) ⊎ ((console_places ≤ c) × (o ≡ console_places))
-
--- the byte at a place of a text
-abbrev pub byte : List ℕ → ℕ → Option ℕ
-byte [] i = None
-byte (x ∷ xs) zero = Some x
-byte (x ∷ xs) (suc i) = byte xs i
+use Rattle.run_laws.specs.Ended.{stop_number, IsFilled as Full, byte_at as byte}
+use Rattle.run_laws.proofs.Placed.{Placed, steps}
+use Rattle.turn_pieces.specs.Shared.{IsShared, mode_named}
+use Rattle.machine_model.specs.ReasonWords.{reason_word}
+use Rattle.run_laws.proofs.Pieces.{IsActing, Reads, Told}
+use Rattle.run_laws.proofs.Begun.{IsLoaded}
 
 -- one run that reads the history h, behind the loader's stores: its state at the end is what the words hold
 pub record Composed (u : Setup) (boot h : List Step) (records : ℕ → List Placed) : Type 0 where
   pub run : List Event
   pub is_run : IsRun u run
   pub reads : Reads h records run
+  pub told : Told u reads.all
   -- RAM and IPI
   pub memory_is : (x : ℕ) → IsShared (name_of x) → value_at x (h ++ boot) ≡ memory u (state_of u run) x
   pub modes_are : (k : ℕ) → k < u.layout.harts → mode_named (value_at (number_of (Hsm k)) (h ++ boot)) ≡ mode_of (state_of u run) k

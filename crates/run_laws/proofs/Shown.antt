@@ -11,20 +11,9 @@ use Rattle.machine_model.specs.Run.{renews}
 use Rattle.rv64_priv.specs.Reads.{answering}
 use Rattle.machine_model.specs.Access.{crosses_page, second_va, spot_of, is_at_ram}
 use Rattle.machine_model.specs.Walks.{Wanted}
-use Rattle.run_laws.specs.Placed.{Placed, Found, found, Stood}
-
--- the loads of a walk that finds these words, by level, the last load first
-abbrev pub reads_from : (pages va : ℕ) → (ℕ → ℕ) → (levels table : ℕ) → List Found → List Found
-reads_from pages va finds zero table before = before
-reads_from pages va finds (suc level) table before =
-    let place = pte_address table va level in
-    let read = found (ram_word place) (finds level) ∷ before in
-    let more = reads_from pages va finds level (ppn (finds level) * 4096) read in
-    if is_ram pages place then (if is_malformed (finds level) || is_leaf (finds level) then read else more) else before
-
-unfoldable pub reads_of : (pages : ℕ) → Regime → (va : ℕ) → (ℕ → ℕ) → List Found
-reads_of pages r va finds =
-    if is_bare r then [] else if is_canonical va then reads_from pages va finds 3 (r.satp % 2 ^ 44 * 4096) [] else []
+use Rattle.run_laws.proofs.Placed.{Placed, Stood}
+use Rattle.walk_laws.specs.WalkLoads.{Found, found}
+use Rattle.walk_laws.specs.WalkLoads.{reads_of}
 
 -- the walk's loads stand in the record, with nothing since the first of them that renews the walk: for a leaf a flush that
 -- covers it, for a fault an event of the hart. It may have been a walk of long ago, which filled an entry of the TLB

@@ -10,12 +10,14 @@ use Rattle.step_laws.specs.Harts.{is_owing}
 use Rattle.machine_model.specs.Event.{Event}
 use Rattle.machine_model.specs.State.{Setup}
 use Rattle.machine_model.specs.Run.{is_due, says_all_stopped}
-use Rattle.run_laws.specs.Placed.{Placed, steps, run_of, mine}
-use Rattle.run_laws.specs.Kept.{part_at, whole, half, drawn, unstored, was_last}
-use Rattle.run_laws.specs.Fits.{AllFit}
-use Rattle.run_laws.specs.Acks.{Acks}
-use Rattle.run_laws.specs.Filling.{filled, beyond, Drawing}
-use Rattle.run_laws.specs.Accounts.{Accounts}
+use Rattle.run_laws.proofs.Placed.{Placed, steps, run_of, mine}
+use Rattle.run_laws.proofs.Kept.{part_at, whole, half, drawn, unstored}
+use Rattle.turn_pieces.specs.Folds.{was_last}
+use Rattle.run_laws.proofs.Fits.{AllFit}
+use Rattle.run_laws.proofs.Acks.{Acks}
+use Rattle.turn_pieces.specs.Draws.{filled, beyond, Drawing}
+use Rattle.run_laws.proofs.Accounts.{Accounts}
+use Rattle.turn_pieces.specs.Folds.{IsUncount}
 
 -- a step with its events is right behind the actor's record r
 pub record IsPlaced (u : Setup) (a : ℕ) (r : List Placed) (s : Step) (es : List Event) : Type 0 where
@@ -28,11 +30,6 @@ pub record IsPlaced (u : Setup) (a : ℕ) (r : List Placed) (s : Step) (es : Lis
 abbrev pub IsPart : Setup → (a : ℕ) → List Placed → List Placed → Type 0
 IsPart u a r [] = Unit {0}
 IsPart u a r (t ∷ ts) = IsPlaced u a (ts ++ r) t.step t.events × IsPart u a r ts
-
--- a hart that has stopped says so
-abbrev pub IsUncount : Word → WordOp → (arg : ℕ) → Type 0
-IsUncount Live Add arg = arg ≡ 2 ^ 64 - 1
-IsUncount _ _ arg = ⊥
 
 -- an AllStopped stands since the actor's last step of this kind
 abbrev pub Said : List Placed → Type 0
