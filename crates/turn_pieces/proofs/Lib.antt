@@ -4,3 +4,5 @@ pub mod Offers
 pub mod Calls
 pub mod Accesses
 pub mod Chains
+pub mod Rows
+mod Wrong
