@@ -4,5 +4,8 @@ pub mod Offers
 pub mod Calls
 pub mod Accesses
 pub mod Chains
+pub mod Unmarked
 pub mod Rows
 mod Wrong
+pub mod TwoHarts
+pub mod AtLimit
