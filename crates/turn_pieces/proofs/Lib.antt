@@ -9,3 +9,4 @@ pub mod Rows
 mod Wrong
 pub mod TwoHarts
 pub mod AtLimit
+mod Stale

@@ -68,377 +68,489 @@ crossed = Exec 0 (Walked.Leaf 0xcf 0x80000000 0) Walked.PageFault
 abbrev pub stopping : Event
 stopping = Exec 0 Walked.PageFault Walked.PageFault (record (only Answer.Nothing) { stops = true })
 
-abbrev pub a0 : Log
-a0 = made (step 0 2 Load 0 0) ∷ []
+abbrev pub start_look : Log
+start_look = made (step 0 2 Load 0 0) ∷ []
 
-abbrev pub a1 : Log
-a1 = made (step 0 1 Load 0 0) ∷ made (step 0 8 Store 1 0) ∷ a0
+abbrev pub start_inside : Log
+start_inside = made (step 0 1 Load 0 0) ∷ made (step 0 8 Store 1 0) ∷ start_look
 
-abbrev pub a2_0 : Log
-a2_0 = did (executed 0) ∷ did (fetched 0 (Lui 17 (pos 0x485000))) ∷ made (step 0 first_ram_word Load 0 (encoding_of (Lui 17 (pos 0x485000)) + 2 ^ 32 * encoding_of (Addi 17 17 (pos 845)))) ∷ made (step 0 5 Load 0 0) ∷ a1
+abbrev pub start_code_1 : Log
+start_code_1 = did (executed 0) ∷ did (fetched 0 (Lui 17 (pos 0x485000))) ∷ made (step 0 first_ram_word Load 0 (encoding_of (Lui 17 (pos 0x485000)) + 2 ^ 32 * encoding_of (Addi 17 17 (pos 845)))) ∷ made (step 0 5 Load 0 0) ∷ start_inside
 
-abbrev pub a2_1 : Log
-a2_1 = did (executed 0) ∷ did (fetched 0 (Addi 17 17 (pos 845))) ∷ made (step 0 first_ram_word Load 0 (encoding_of (Lui 17 (pos 0x485000)) + 2 ^ 32 * encoding_of (Addi 17 17 (pos 845)))) ∷ made (step 0 5 Load 0 0) ∷ a2_0
+abbrev pub start_code_2 : Log
+start_code_2 = did (executed 0) ∷ did (fetched 0 (Addi 17 17 (pos 845))) ∷ made (step 0 first_ram_word Load 0 (encoding_of (Lui 17 (pos 0x485000)) + 2 ^ 32 * encoding_of (Addi 17 17 (pos 845)))) ∷ made (step 0 5 Load 0 0) ∷ start_code_1
 
-abbrev pub a2_2 : Log
-a2_2 = did (executed 0) ∷ did (fetched 0 (Addi 10 0 (pos 1))) ∷ made (step 0 (first_ram_word + 1) Load 0 (encoding_of (Addi 10 0 (pos 1)) + 2 ^ 32 * encoding_of (Auipc 11 (pos 0)))) ∷ made (step 0 5 Load 0 0) ∷ a2_1
+abbrev pub start_code_3 : Log
+start_code_3 = did (executed 0) ∷ did (fetched 0 (Addi 10 0 (pos 1))) ∷ made (step 0 (first_ram_word + 1) Load 0 (encoding_of (Addi 10 0 (pos 1)) + 2 ^ 32 * encoding_of (Auipc 11 (pos 0)))) ∷ made (step 0 5 Load 0 0) ∷ start_code_2
 
-abbrev pub a2_3 : Log
-a2_3 = did (executed 0) ∷ did (fetched 0 (Auipc 11 (pos 0))) ∷ made (step 0 (first_ram_word + 1) Load 0 (encoding_of (Addi 10 0 (pos 1)) + 2 ^ 32 * encoding_of (Auipc 11 (pos 0)))) ∷ made (step 0 5 Load 0 0) ∷ a2_2
+abbrev pub start_code_4 : Log
+start_code_4 = did (executed 0) ∷ did (fetched 0 (Auipc 11 (pos 0))) ∷ made (step 0 (first_ram_word + 1) Load 0 (encoding_of (Addi 10 0 (pos 1)) + 2 ^ 32 * encoding_of (Auipc 11 (pos 0)))) ∷ made (step 0 5 Load 0 0) ∷ start_code_3
 
-abbrev pub a2_4 : Log
-a2_4 = did (executed 0) ∷ did (fetched 0 (Addi 11 11 (pos 12))) ∷ made (step 0 (first_ram_word + 2) Load 0 (encoding_of (Addi 11 11 (pos 12)) + 2 ^ 32 * encoding_of (Ecall))) ∷ made (step 0 5 Load 0 0) ∷ a2_3
+abbrev pub start_code_5 : Log
+start_code_5 = did (executed 0) ∷ did (fetched 0 (Addi 11 11 (pos 12))) ∷ made (step 0 (first_ram_word + 2) Load 0 (encoding_of (Addi 11 11 (pos 12)) + 2 ^ 32 * encoding_of (Ecall))) ∷ made (step 0 5 Load 0 0) ∷ start_code_4
 
-abbrev pub a3 : Log
-a3 = made (step 0 29 (Exchange 1) 3 1) ∷ did (fetched 0 (Ecall)) ∷ made (step 0 (first_ram_word + 2) Load 0 (encoding_of (Addi 11 11 (pos 12)) + 2 ^ 32 * encoding_of (Ecall))) ∷ made (step 0 5 Load 0 0) ∷ a2_4
+abbrev pub start_called : Log
+start_called = made (step 0 29 (Exchange 1) 3 1) ∷ did (fetched 0 (Ecall)) ∷ made (step 0 (first_ram_word + 2) Load 0 (encoding_of (Addi 11 11 (pos 12)) + 2 ^ 32 * encoding_of (Ecall))) ∷ made (step 0 5 Load 0 0) ∷ start_code_5
 
-abbrev pub a4 : Log
-a4 = made (step 0 8 Store 0 0) ∷ made (step 0 29 Store 2 0) ∷ made (step 0 3 Add 1 1) ∷ made (step 0 31 Store 0 0) ∷ made (step 0 30 Store 0x80000018 0) ∷ did (starting) ∷ a3
+abbrev pub start_turn : Log
+start_turn = made (step 0 8 Store 0 0) ∷ made (step 0 29 Store 2 0) ∷ made (step 0 3 Add 1 1) ∷ made (step 0 31 Store 0 0) ∷ made (step 0 30 Store 0x80000018 0) ∷ did (starting) ∷ start_called
 
-abbrev pub b0 : Log
-b0 = made (step 0 2 Load 0 0) ∷ a4
+abbrev pub add_look : Log
+add_look = made (step 0 2 Load 0 0) ∷ start_turn
 
-abbrev pub b1 : Log
-b1 = made (step 0 1 Load 0 0) ∷ made (step 0 8 Store 1 0) ∷ b0
+abbrev pub add_inside : Log
+add_inside = made (step 0 1 Load 0 0) ∷ made (step 0 8 Store 1 0) ∷ add_look
 
-abbrev pub b2_0 : Log
-b2_0 = did (executed 0) ∷ did (fetched 0 (Auipc 11 (pos 0))) ∷ made (step 0 (first_ram_word + 3) Load 0 (encoding_of (Auipc 11 (pos 0)) + 2 ^ 32 * encoding_of (Addi 11 11 (pos 40)))) ∷ made (step 0 5 Load 0 0) ∷ b1
+abbrev pub add_code_1 : Log
+add_code_1 = did (executed 0) ∷ did (fetched 0 (Auipc 11 (pos 0))) ∷ made (step 0 (first_ram_word + 3) Load 0 (encoding_of (Auipc 11 (pos 0)) + 2 ^ 32 * encoding_of (Addi 11 11 (pos 40)))) ∷ made (step 0 5 Load 0 0) ∷ add_inside
 
-abbrev pub b2_1 : Log
-b2_1 = did (executed 0) ∷ did (fetched 0 (Addi 11 11 (pos 40))) ∷ made (step 0 (first_ram_word + 3) Load 0 (encoding_of (Auipc 11 (pos 0)) + 2 ^ 32 * encoding_of (Addi 11 11 (pos 40)))) ∷ made (step 0 5 Load 0 0) ∷ b2_0
+abbrev pub add_code_2 : Log
+add_code_2 = did (executed 0) ∷ did (fetched 0 (Addi 11 11 (pos 40))) ∷ made (step 0 (first_ram_word + 3) Load 0 (encoding_of (Auipc 11 (pos 0)) + 2 ^ 32 * encoding_of (Addi 11 11 (pos 40)))) ∷ made (step 0 5 Load 0 0) ∷ add_code_1
 
-abbrev pub b2_2 : Log
-b2_2 = did (executed 0) ∷ did (fetched 0 (Addi 10 0 (pos 1))) ∷ made (step 0 (first_ram_word + 4) Load 0 (encoding_of (Addi 10 0 (pos 1)) + 2 ^ 32 * encoding_of (Amoadd true false false 5 11 10))) ∷ made (step 0 5 Load 0 0) ∷ b2_1
+abbrev pub add_code_3 : Log
+add_code_3 = did (executed 0) ∷ did (fetched 0 (Addi 10 0 (pos 1))) ∷ made (step 0 (first_ram_word + 4) Load 0 (encoding_of (Addi 10 0 (pos 1)) + 2 ^ 32 * encoding_of (Amoadd true false false 5 11 10))) ∷ made (step 0 5 Load 0 0) ∷ add_code_2
 
-abbrev pub b3_added : Log
-b3_added = made (step 0 (first_ram_word + 8) Add 1 0) ∷ did (fetched 0 (Amoadd true false false 5 11 10)) ∷ made (step 0 (first_ram_word + 4) Load 0 (encoding_of (Addi 10 0 (pos 1)) + 2 ^ 32 * encoding_of (Amoadd true false false 5 11 10))) ∷ made (step 0 5 Load 0 0) ∷ b2_2
+abbrev pub add_stepped : Log
+add_stepped = made (step 0 (first_ram_word + 8) Add 1 0) ∷ did (fetched 0 (Amoadd true false false 5 11 10)) ∷ made (step 0 (first_ram_word + 4) Load 0 (encoding_of (Addi 10 0 (pos 1)) + 2 ^ 32 * encoding_of (Amoadd true false false 5 11 10))) ∷ made (step 0 5 Load 0 0) ∷ add_code_3
 
-abbrev pub b4 : Log
-b4 = made (step 0 8 Store 0 0) ∷ did (added 0 (0)) ∷ b3_added
+abbrev pub add_turn : Log
+add_turn = made (step 0 8 Store 0 0) ∷ did (added 0 (0)) ∷ add_stepped
 
-abbrev pub c0 : Log
-c0 = made (step 0 2 Load 0 0) ∷ b4
+abbrev pub cross_look : Log
+cross_look = made (step 0 2 Load 0 0) ∷ add_turn
 
-abbrev pub c1 : Log
-c1 = made (step 0 136 Load 0 0) ∷ made (step 0 24 Load 0 0) ∷ made (step 0 1 (Exchange 0) 1 0) ∷ c0
+abbrev pub in_section : Log
+in_section = made (step 0 136 Load 0 0) ∷ made (step 0 24 Load 0 0) ∷ made (step 0 1 (Exchange 0) 1 0) ∷ cross_look
 
-abbrev pub c2 : Log
-c2 = made (step 0 (first_ram_word + 9) Load 0 0) ∷ made (step 0 (first_ram_word + 8) Load 0 1) ∷ did (fetched 0 (Sd 11 10 (pos 4))) ∷ made (step 0 (first_ram_word + 5) Load 0 (encoding_of (Sd 11 10 (pos 4)) + 2 ^ 32 * encoding_of (Addi 16 0 (pos 1)))) ∷ made (step 0 5 Load 0 0) ∷ c1
+abbrev pub both_loaded : Log
+both_loaded = made (step 0 (first_ram_word + 9) Load 0 0) ∷ made (step 0 (first_ram_word + 8) Load 0 1) ∷ did (fetched 0 (Sd 11 10 (pos 4))) ∷ made (step 0 (first_ram_word + 5) Load 0 (encoding_of (Sd 11 10 (pos 4)) + 2 ^ 32 * encoding_of (Addi 16 0 (pos 1)))) ∷ made (step 0 5 Load 0 0) ∷ in_section
 
-abbrev pub c3 : Log
-c3 = made (step 0 (first_ram_word + 9) Store 0 0) ∷ made (step 0 (first_ram_word + 8) Store (1 + 2 ^ 32) 0) ∷ c2
+abbrev pub both_stored : Log
+both_stored = made (step 0 (first_ram_word + 9) Store 0 0) ∷ made (step 0 (first_ram_word + 8) Store (1 + 2 ^ 32) 0) ∷ both_loaded
 
-abbrev pub c4 : Log
-c4 = made (step 0 1 Store 0 0) ∷ did (crossed) ∷ c3
+abbrev pub cross_turn : Log
+cross_turn = made (step 0 1 Store 0 0) ∷ did (crossed) ∷ both_stored
 
-abbrev pub d0 : Log
-d0 = made (step 0 2 Load 0 0) ∷ c4
+abbrev pub stop_look : Log
+stop_look = made (step 0 2 Load 0 0) ∷ cross_turn
 
-abbrev pub d1 : Log
-d1 = made (step 0 1 Load 0 0) ∷ made (step 0 8 Store 1 0) ∷ d0
+abbrev pub stop_inside : Log
+stop_inside = made (step 0 1 Load 0 0) ∷ made (step 0 8 Store 1 0) ∷ stop_look
 
-abbrev pub d2 : Log
-d2 = did (executed 0) ∷ did (fetched 0 (Addi 16 0 (pos 1))) ∷ made (step 0 (first_ram_word + 5) Load 0 (encoding_of (Sd 11 10 (pos 4)) + 2 ^ 32 * encoding_of (Addi 16 0 (pos 1)))) ∷ made (step 0 5 Load 0 0) ∷ d1
+abbrev pub stop_code : Log
+stop_code = did (executed 0) ∷ did (fetched 0 (Addi 16 0 (pos 1))) ∷ made (step 0 (first_ram_word + 5) Load 0 (encoding_of (Sd 11 10 (pos 4)) + 2 ^ 32 * encoding_of (Addi 16 0 (pos 1)))) ∷ made (step 0 5 Load 0 0) ∷ stop_inside
 
-abbrev pub d3 : Log
-d3 = made (step 0 8 Store 0 0) ∷ made (step 0 3 Add minus_one 2) ∷ did (stopping) ∷ made (step 0 13 Store 1 0) ∷ did (fetched 0 (Ecall)) ∷ made (step 0 (first_ram_word + 6) Load 0 (encoding_of (Ecall) + 2 ^ 32 * encoding_of (Ecall))) ∷ made (step 0 5 Load 0 0) ∷ d2
+abbrev pub stop_turn : Log
+stop_turn = made (step 0 8 Store 0 0) ∷ made (step 0 3 Add minus_one 2) ∷ did (stopping) ∷ made (step 0 13 Store 1 0) ∷ did (fetched 0 (Ecall)) ∷ made (step 0 (first_ram_word + 6) Load 0 (encoding_of (Ecall) + 2 ^ 32 * encoding_of (Ecall))) ∷ made (step 0 5 Load 0 0) ∷ stop_code
 
-a1_grows : Grows two_harts 0 a0 a1
+start_inside_grows : Grows two_harts 0 start_look start_inside
 unfolding name_of need_of done walk_of sbi_of perform own_executed flushing reads_of
-a1_grows = makes (step 0 1 Load 0 0) (makes (step 0 8 Store 1 0) (stays)
+start_inside_grows = makes (step 0 1 Load 0 0) (makes (step 0 8 Store 1 0) (stays)
     (record { behind = (tt, refl); acks = tt; draws_last = tt }))
     (record { behind = (tt, refl); acks = tt; draws_last = tt })
 
-a2_0_grows : Grows two_harts 0 a1 a2_0
+start_code_1_grows : Grows two_harts 0 start_inside start_code_1
 unfolding name_of need_of done walk_of sbi_of perform own_executed flushing reads_of
-a2_0_grows = does (executed 0) (does (fetched 0 (Lui 17 (pos 0x485000))) (makes (step 0 first_ram_word Load 0 (encoding_of (Lui 17 (pos 0x485000)) + 2 ^ 32 * encoding_of (Addi 17 17 (pos 845)))) (makes (step 0 5 Load 0 0) (stays)
+start_code_1_grows = does (executed 0) (does (fetched 0 (Lui 17 (pos 0x485000))) (makes (step 0 first_ram_word Load 0 (encoding_of (Lui 17 (pos 0x485000)) + 2 ^ 32 * encoding_of (Addi 17 17 (pos 845)))) (makes (step 0 5 Load 0 0) (stays)
     (record { behind = (tt, tt); acks = tt; draws_last = tt }))
     (record { behind = (tt, tt); acks = tt; draws_last = tt }))
-    (record { own = refl; fit = (omega arith, record {
-      runs = refl;
-      holds_none = refl;
-      not_due = refl;
-      ipi = 0;
-      loaded = inr (inl ((refl, refl, refl), tt));
-      quiet = refl;
-      shown = record { finds = λ x. 0; is_end = refl; stood = tt };
-      fetched = (refl, refl, refl, ((omega arith, (omega arith, omega arith), refl), refl));
-    }); pays = fetched_quiet 0 (Lui 17 (pos 0x485000)) }))
+    (record {
+      own = refl;
+      fit = (
+        omega arith,
+        record {
+          runs = refl;
+          holds_none = refl;
+          not_due = refl;
+          ipi = 0;
+          loaded = inr (inl ((refl, refl, refl), tt));
+          quiet = refl;
+          shown = record { finds = λ x. 0; is_end = refl; stood = tt };
+          fetched = (refl, refl, refl, ((omega arith, (omega arith, omega arith), refl), refl));
+        },
+      );
+      pays = fetched_quiet 0 (Lui 17 (pos 0x485000));
+    }))
     (record { own = refl; fit = (omega arith, record { holds = refl; shown = tt; flushed = λ w s. tt; right = λ w s. refl }); pays = executed_quiet 0 })
 
-a2_1_grows : Grows two_harts 0 a2_0 a2_1
+start_code_2_grows : Grows two_harts 0 start_code_1 start_code_2
 unfolding name_of need_of done walk_of sbi_of perform own_executed flushing reads_of
-a2_1_grows = does (executed 0) (does (fetched 0 (Addi 17 17 (pos 845))) (makes (step 0 first_ram_word Load 0 (encoding_of (Lui 17 (pos 0x485000)) + 2 ^ 32 * encoding_of (Addi 17 17 (pos 845)))) (makes (step 0 5 Load 0 0) (stays)
+start_code_2_grows = does (executed 0) (does (fetched 0 (Addi 17 17 (pos 845))) (makes (step 0 first_ram_word Load 0 (encoding_of (Lui 17 (pos 0x485000)) + 2 ^ 32 * encoding_of (Addi 17 17 (pos 845)))) (makes (step 0 5 Load 0 0) (stays)
     (record { behind = (tt, tt); acks = tt; draws_last = tt }))
     (record { behind = (tt, tt); acks = tt; draws_last = tt }))
-    (record { own = refl; fit = (omega arith, record {
-      runs = refl;
-      holds_none = refl;
-      not_due = refl;
-      ipi = 0;
-      loaded = inr (inl ((refl, refl, refl), tt));
-      quiet = refl;
-      shown = record { finds = λ x. 0; is_end = refl; stood = tt };
-      fetched = (refl, refl, refl, ((omega arith, omega arith, (omega arith, omega arith)), refl));
-    }); pays = fetched_quiet 0 (Addi 17 17 (pos 845)) }))
+    (record {
+      own = refl;
+      fit = (
+        omega arith,
+        record {
+          runs = refl;
+          holds_none = refl;
+          not_due = refl;
+          ipi = 0;
+          loaded = inr (inl ((refl, refl, refl), tt));
+          quiet = refl;
+          shown = record { finds = λ x. 0; is_end = refl; stood = tt };
+          fetched = (refl, refl, refl, ((omega arith, omega arith, (omega arith, omega arith)), refl));
+        },
+      );
+      pays = fetched_quiet 0 (Addi 17 17 (pos 845));
+    }))
     (record { own = refl; fit = (omega arith, record { holds = refl; shown = tt; flushed = λ w s. tt; right = λ w s. refl }); pays = executed_quiet 0 })
 
-a2_2_grows : Grows two_harts 0 a2_1 a2_2
+start_code_3_grows : Grows two_harts 0 start_code_2 start_code_3
 unfolding name_of need_of done walk_of sbi_of perform own_executed flushing reads_of
-a2_2_grows = does (executed 0) (does (fetched 0 (Addi 10 0 (pos 1))) (makes (step 0 (first_ram_word + 1) Load 0 (encoding_of (Addi 10 0 (pos 1)) + 2 ^ 32 * encoding_of (Auipc 11 (pos 0)))) (makes (step 0 5 Load 0 0) (stays)
+start_code_3_grows = does (executed 0) (does (fetched 0 (Addi 10 0 (pos 1))) (makes (step 0 (first_ram_word + 1) Load 0 (encoding_of (Addi 10 0 (pos 1)) + 2 ^ 32 * encoding_of (Auipc 11 (pos 0)))) (makes (step 0 5 Load 0 0) (stays)
     (record { behind = (tt, tt); acks = tt; draws_last = tt }))
     (record { behind = (tt, tt); acks = tt; draws_last = tt }))
-    (record { own = refl; fit = (omega arith, record {
-      runs = refl;
-      holds_none = refl;
-      not_due = refl;
-      ipi = 0;
-      loaded = inr (inl ((refl, refl, refl), tt));
-      quiet = refl;
-      shown = record { finds = λ x. 0; is_end = refl; stood = tt };
-      fetched = (refl, refl, refl, ((omega arith, omega arith, (omega arith, omega arith)), refl));
-    }); pays = fetched_quiet 0 (Addi 10 0 (pos 1)) }))
+    (record {
+      own = refl;
+      fit = (
+        omega arith,
+        record {
+          runs = refl;
+          holds_none = refl;
+          not_due = refl;
+          ipi = 0;
+          loaded = inr (inl ((refl, refl, refl), tt));
+          quiet = refl;
+          shown = record { finds = λ x. 0; is_end = refl; stood = tt };
+          fetched = (refl, refl, refl, ((omega arith, omega arith, (omega arith, omega arith)), refl));
+        },
+      );
+      pays = fetched_quiet 0 (Addi 10 0 (pos 1));
+    }))
     (record { own = refl; fit = (omega arith, record { holds = refl; shown = tt; flushed = λ w s. tt; right = λ w s. refl }); pays = executed_quiet 0 })
 
-a2_3_grows : Grows two_harts 0 a2_2 a2_3
+start_code_4_grows : Grows two_harts 0 start_code_3 start_code_4
 unfolding name_of need_of done walk_of sbi_of perform own_executed flushing reads_of
-a2_3_grows = does (executed 0) (does (fetched 0 (Auipc 11 (pos 0))) (makes (step 0 (first_ram_word + 1) Load 0 (encoding_of (Addi 10 0 (pos 1)) + 2 ^ 32 * encoding_of (Auipc 11 (pos 0)))) (makes (step 0 5 Load 0 0) (stays)
+start_code_4_grows = does (executed 0) (does (fetched 0 (Auipc 11 (pos 0))) (makes (step 0 (first_ram_word + 1) Load 0 (encoding_of (Addi 10 0 (pos 1)) + 2 ^ 32 * encoding_of (Auipc 11 (pos 0)))) (makes (step 0 5 Load 0 0) (stays)
     (record { behind = (tt, tt); acks = tt; draws_last = tt }))
     (record { behind = (tt, tt); acks = tt; draws_last = tt }))
-    (record { own = refl; fit = (omega arith, record {
-      runs = refl;
-      holds_none = refl;
-      not_due = refl;
-      ipi = 0;
-      loaded = inr (inl ((refl, refl, refl), tt));
-      quiet = refl;
-      shown = record { finds = λ x. 0; is_end = refl; stood = tt };
-      fetched = (refl, refl, refl, ((omega arith, (omega arith, omega arith), refl), refl));
-    }); pays = fetched_quiet 0 (Auipc 11 (pos 0)) }))
+    (record {
+      own = refl;
+      fit = (
+        omega arith,
+        record {
+          runs = refl;
+          holds_none = refl;
+          not_due = refl;
+          ipi = 0;
+          loaded = inr (inl ((refl, refl, refl), tt));
+          quiet = refl;
+          shown = record { finds = λ x. 0; is_end = refl; stood = tt };
+          fetched = (refl, refl, refl, ((omega arith, (omega arith, omega arith), refl), refl));
+        },
+      );
+      pays = fetched_quiet 0 (Auipc 11 (pos 0));
+    }))
     (record { own = refl; fit = (omega arith, record { holds = refl; shown = tt; flushed = λ w s. tt; right = λ w s. refl }); pays = executed_quiet 0 })
 
-a2_4_grows : Grows two_harts 0 a2_3 a2_4
+start_code_5_grows : Grows two_harts 0 start_code_4 start_code_5
 unfolding name_of need_of done walk_of sbi_of perform own_executed flushing reads_of
-a2_4_grows = does (executed 0) (does (fetched 0 (Addi 11 11 (pos 12))) (makes (step 0 (first_ram_word + 2) Load 0 (encoding_of (Addi 11 11 (pos 12)) + 2 ^ 32 * encoding_of (Ecall))) (makes (step 0 5 Load 0 0) (stays)
+start_code_5_grows = does (executed 0) (does (fetched 0 (Addi 11 11 (pos 12))) (makes (step 0 (first_ram_word + 2) Load 0 (encoding_of (Addi 11 11 (pos 12)) + 2 ^ 32 * encoding_of (Ecall))) (makes (step 0 5 Load 0 0) (stays)
     (record { behind = (tt, tt); acks = tt; draws_last = tt }))
     (record { behind = (tt, tt); acks = tt; draws_last = tt }))
-    (record { own = refl; fit = (omega arith, record {
-      runs = refl;
-      holds_none = refl;
-      not_due = refl;
-      ipi = 0;
-      loaded = inr (inl ((refl, refl, refl), tt));
-      quiet = refl;
-      shown = record { finds = λ x. 0; is_end = refl; stood = tt };
-      fetched = (refl, refl, refl, ((omega arith, omega arith, (omega arith, omega arith)), refl));
-    }); pays = fetched_quiet 0 (Addi 11 11 (pos 12)) }))
+    (record {
+      own = refl;
+      fit = (
+        omega arith,
+        record {
+          runs = refl;
+          holds_none = refl;
+          not_due = refl;
+          ipi = 0;
+          loaded = inr (inl ((refl, refl, refl), tt));
+          quiet = refl;
+          shown = record { finds = λ x. 0; is_end = refl; stood = tt };
+          fetched = (refl, refl, refl, ((omega arith, omega arith, (omega arith, omega arith)), refl));
+        },
+      );
+      pays = fetched_quiet 0 (Addi 11 11 (pos 12));
+    }))
     (record { own = refl; fit = (omega arith, record { holds = refl; shown = tt; flushed = λ w s. tt; right = λ w s. refl }); pays = executed_quiet 0 })
 
-a3_grows : Grows two_harts 0 a2_4 a3
+start_called_grows : Grows two_harts 0 start_code_5 start_called
 unfolding name_of need_of done walk_of sbi_of perform own_executed flushing reads_of
-a3_grows = makes (step 0 29 (Exchange 1) 3 1) (does (fetched 0 (Ecall)) (makes (step 0 (first_ram_word + 2) Load 0 (encoding_of (Addi 11 11 (pos 12)) + 2 ^ 32 * encoding_of (Ecall))) (makes (step 0 5 Load 0 0) (stays)
+start_called_grows = makes (step 0 29 (Exchange 1) 3 1) (does (fetched 0 (Ecall)) (makes (step 0 (first_ram_word + 2) Load 0 (encoding_of (Addi 11 11 (pos 12)) + 2 ^ 32 * encoding_of (Ecall))) (makes (step 0 5 Load 0 0) (stays)
     (record { behind = (tt, tt); acks = tt; draws_last = tt }))
     (record { behind = (tt, tt); acks = tt; draws_last = tt }))
-    (record { own = refl; fit = (omega arith, record {
-      runs = refl;
-      holds_none = refl;
-      not_due = refl;
-      ipi = 0;
-      loaded = inr (inl ((refl, refl, refl), tt));
-      quiet = refl;
-      shown = record { finds = λ x. 0; is_end = refl; stood = tt };
-      fetched = (refl, refl, refl, (tt, refl));
-    }); pays = fetched_quiet 0 (Ecall) }))
+    (record {
+      own = refl;
+      fit = (
+        omega arith,
+        record {
+          runs = refl;
+          holds_none = refl;
+          not_due = refl;
+          ipi = 0;
+          loaded = inr (inl ((refl, refl, refl), tt));
+          quiet = refl;
+          shown = record { finds = λ x. 0; is_end = refl; stood = tt };
+          fetched = (refl, refl, refl, (tt, refl));
+        },
+      );
+      pays = fetched_quiet 0 (Ecall);
+    }))
     (record { behind = (tt, λ e. (refl, refl)); acks = tt; draws_last = tt })
 
-a4_grows : Grows two_harts 0 a3 a4
+start_turn_grows : Grows two_harts 0 start_called start_turn
 unfolding name_of need_of done walk_of sbi_of perform own_executed flushing reads_of
-a4_grows = makes (step 0 8 Store 0 0) (makes (step 0 29 Store 2 0) (makes (step 0 3 Add 1 1) (makes (step 0 31 Store 0 0) (makes (step 0 30 Store 0x80000018 0) (does (starting) (stays)
-    (record { own = refl; fit = (omega arith, record {
-      holds = refl;
-      shown = tt;
-      flushed = λ w s. subst (AreFenced 0 a3) (λ i. flushing (record w { layout = sym s.layout i; modes = λ t. sym (s.here.1 1 (omega arith) refl (λ e. absurd (cc (e)))) i }) 0 (part two_harts 0 a3).arch (need_held (part two_harts 0 a3).arch (part two_harts 0 a3).held)) tt;
-      right = λ w s. λ i. perform (record w { layout = sym s.layout i; modes = λ t. sym (s.here.1 1 (omega arith) refl (λ e. absurd (cc (e)))) i }) 0 (part two_harts 0 a3).arch Walked.PageFault Walked.PageFault (need_held (part two_harts 0 a3).arch (part two_harts 0 a3).held);
-    }); pays = record { at = 0x80000018; opaque = 0; pays = record { does = record { entry_is = refl; bytes_are = refl; reason_is = refl; starts_is = refl; stops_is = refl }; begins_not = refl } } }))
+start_turn_grows = makes (step 0 8 Store 0 0) (makes (step 0 29 Store 2 0) (makes (step 0 3 Add 1 1) (makes (step 0 31 Store 0 0) (makes (step 0 30 Store 0x80000018 0) (does (starting) (stays)
+    (record {
+      own = refl;
+      fit = (
+        omega arith,
+        record {
+          holds = refl;
+          shown = tt;
+          flushed = λ w s. subst (AreFenced 0 start_called) (λ i. flushing (record w { layout = sym s.layout i; modes = λ t. sym (s.here.1 1 (omega arith) refl (λ e. absurd (cc (e)))) i }) 0 (part two_harts 0 start_called).arch (need_held (part two_harts 0 start_called).arch (part two_harts 0 start_called).held)) tt;
+          right = λ w s. λ i. perform (record w { layout = sym s.layout i; modes = λ t. sym (s.here.1 1 (omega arith) refl (λ e. absurd (cc (e)))) i }) 0 (part two_harts 0 start_called).arch Walked.PageFault Walked.PageFault (need_held (part two_harts 0 start_called).arch (part two_harts 0 start_called).held);
+        },
+      );
+      pays = record { at = 0x80000018; opaque = 0; pays = record { does = record { entry_is = refl; bytes_are = refl; reason_is = refl; starts_is = refl; stops_is = refl }; begins_not = refl } };
+    }))
     (record { behind = (tt, (0, refl)); acks = tt; draws_last = tt }))
     (record { behind = (tt, (0x80000018, refl)); acks = tt; draws_last = tt }))
     (record { behind = (tt, tt); acks = tt; draws_last = tt }))
     (record { behind = (tt, inl refl); acks = tt; draws_last = tt }))
     (record { behind = (tt, refl); acks = tt; draws_last = tt })
 
-b1_grows : Grows two_harts 0 b0 b1
+add_inside_grows : Grows two_harts 0 add_look add_inside
 unfolding name_of need_of done walk_of sbi_of perform own_executed flushing reads_of
-b1_grows = makes (step 0 1 Load 0 0) (makes (step 0 8 Store 1 0) (stays)
+add_inside_grows = makes (step 0 1 Load 0 0) (makes (step 0 8 Store 1 0) (stays)
     (record { behind = (tt, refl); acks = tt; draws_last = tt }))
     (record { behind = (tt, refl); acks = tt; draws_last = tt })
 
-b2_0_grows : Grows two_harts 0 b1 b2_0
+add_code_1_grows : Grows two_harts 0 add_inside add_code_1
 unfolding name_of need_of done walk_of sbi_of perform own_executed flushing reads_of
-b2_0_grows = does (executed 0) (does (fetched 0 (Auipc 11 (pos 0))) (makes (step 0 (first_ram_word + 3) Load 0 (encoding_of (Auipc 11 (pos 0)) + 2 ^ 32 * encoding_of (Addi 11 11 (pos 40)))) (makes (step 0 5 Load 0 0) (stays)
+add_code_1_grows = does (executed 0) (does (fetched 0 (Auipc 11 (pos 0))) (makes (step 0 (first_ram_word + 3) Load 0 (encoding_of (Auipc 11 (pos 0)) + 2 ^ 32 * encoding_of (Addi 11 11 (pos 40)))) (makes (step 0 5 Load 0 0) (stays)
     (record { behind = (tt, tt); acks = tt; draws_last = tt }))
     (record { behind = (tt, tt); acks = tt; draws_last = tt }))
-    (record { own = refl; fit = (omega arith, record {
-      runs = refl;
-      holds_none = refl;
-      not_due = refl;
-      ipi = 0;
-      loaded = inr (inl ((refl, refl, refl), tt));
-      quiet = refl;
-      shown = record { finds = λ x. 0; is_end = refl; stood = tt };
-      fetched = (refl, refl, refl, ((omega arith, (omega arith, omega arith), refl), refl));
-    }); pays = fetched_quiet 0 (Auipc 11 (pos 0)) }))
+    (record {
+      own = refl;
+      fit = (
+        omega arith,
+        record {
+          runs = refl;
+          holds_none = refl;
+          not_due = refl;
+          ipi = 0;
+          loaded = inr (inl ((refl, refl, refl), tt));
+          quiet = refl;
+          shown = record { finds = λ x. 0; is_end = refl; stood = tt };
+          fetched = (refl, refl, refl, ((omega arith, (omega arith, omega arith), refl), refl));
+        },
+      );
+      pays = fetched_quiet 0 (Auipc 11 (pos 0));
+    }))
     (record { own = refl; fit = (omega arith, record { holds = refl; shown = tt; flushed = λ w s. tt; right = λ w s. refl }); pays = executed_quiet 0 })
 
-b2_1_grows : Grows two_harts 0 b2_0 b2_1
+add_code_2_grows : Grows two_harts 0 add_code_1 add_code_2
 unfolding name_of need_of done walk_of sbi_of perform own_executed flushing reads_of
-b2_1_grows = does (executed 0) (does (fetched 0 (Addi 11 11 (pos 40))) (makes (step 0 (first_ram_word + 3) Load 0 (encoding_of (Auipc 11 (pos 0)) + 2 ^ 32 * encoding_of (Addi 11 11 (pos 40)))) (makes (step 0 5 Load 0 0) (stays)
+add_code_2_grows = does (executed 0) (does (fetched 0 (Addi 11 11 (pos 40))) (makes (step 0 (first_ram_word + 3) Load 0 (encoding_of (Auipc 11 (pos 0)) + 2 ^ 32 * encoding_of (Addi 11 11 (pos 40)))) (makes (step 0 5 Load 0 0) (stays)
     (record { behind = (tt, tt); acks = tt; draws_last = tt }))
     (record { behind = (tt, tt); acks = tt; draws_last = tt }))
-    (record { own = refl; fit = (omega arith, record {
-      runs = refl;
-      holds_none = refl;
-      not_due = refl;
-      ipi = 0;
-      loaded = inr (inl ((refl, refl, refl), tt));
-      quiet = refl;
-      shown = record { finds = λ x. 0; is_end = refl; stood = tt };
-      fetched = (refl, refl, refl, ((omega arith, omega arith, (omega arith, omega arith)), refl));
-    }); pays = fetched_quiet 0 (Addi 11 11 (pos 40)) }))
+    (record {
+      own = refl;
+      fit = (
+        omega arith,
+        record {
+          runs = refl;
+          holds_none = refl;
+          not_due = refl;
+          ipi = 0;
+          loaded = inr (inl ((refl, refl, refl), tt));
+          quiet = refl;
+          shown = record { finds = λ x. 0; is_end = refl; stood = tt };
+          fetched = (refl, refl, refl, ((omega arith, omega arith, (omega arith, omega arith)), refl));
+        },
+      );
+      pays = fetched_quiet 0 (Addi 11 11 (pos 40));
+    }))
     (record { own = refl; fit = (omega arith, record { holds = refl; shown = tt; flushed = λ w s. tt; right = λ w s. refl }); pays = executed_quiet 0 })
 
-b2_2_grows : Grows two_harts 0 b2_1 b2_2
+add_code_3_grows : Grows two_harts 0 add_code_2 add_code_3
 unfolding name_of need_of done walk_of sbi_of perform own_executed flushing reads_of
-b2_2_grows = does (executed 0) (does (fetched 0 (Addi 10 0 (pos 1))) (makes (step 0 (first_ram_word + 4) Load 0 (encoding_of (Addi 10 0 (pos 1)) + 2 ^ 32 * encoding_of (Amoadd true false false 5 11 10))) (makes (step 0 5 Load 0 0) (stays)
+add_code_3_grows = does (executed 0) (does (fetched 0 (Addi 10 0 (pos 1))) (makes (step 0 (first_ram_word + 4) Load 0 (encoding_of (Addi 10 0 (pos 1)) + 2 ^ 32 * encoding_of (Amoadd true false false 5 11 10))) (makes (step 0 5 Load 0 0) (stays)
     (record { behind = (tt, tt); acks = tt; draws_last = tt }))
     (record { behind = (tt, tt); acks = tt; draws_last = tt }))
-    (record { own = refl; fit = (omega arith, record {
-      runs = refl;
-      holds_none = refl;
-      not_due = refl;
-      ipi = 0;
-      loaded = inr (inl ((refl, refl, refl), tt));
-      quiet = refl;
-      shown = record { finds = λ x. 0; is_end = refl; stood = tt };
-      fetched = (refl, refl, refl, ((omega arith, omega arith, (omega arith, omega arith)), refl));
-    }); pays = fetched_quiet 0 (Addi 10 0 (pos 1)) }))
+    (record {
+      own = refl;
+      fit = (
+        omega arith,
+        record {
+          runs = refl;
+          holds_none = refl;
+          not_due = refl;
+          ipi = 0;
+          loaded = inr (inl ((refl, refl, refl), tt));
+          quiet = refl;
+          shown = record { finds = λ x. 0; is_end = refl; stood = tt };
+          fetched = (refl, refl, refl, ((omega arith, omega arith, (omega arith, omega arith)), refl));
+        },
+      );
+      pays = fetched_quiet 0 (Addi 10 0 (pos 1));
+    }))
     (record { own = refl; fit = (omega arith, record { holds = refl; shown = tt; flushed = λ w s. tt; right = λ w s. refl }); pays = executed_quiet 0 })
 
-b3_added_grows : Grows two_harts 0 b2_2 b3_added
+add_stepped_grows : Grows two_harts 0 add_code_3 add_stepped
 unfolding name_of need_of done walk_of sbi_of perform own_executed flushing reads_of
-b3_added_grows = makes (step 0 (first_ram_word + 8) Add 1 0) (does (fetched 0 (Amoadd true false false 5 11 10)) (makes (step 0 (first_ram_word + 4) Load 0 (encoding_of (Addi 10 0 (pos 1)) + 2 ^ 32 * encoding_of (Amoadd true false false 5 11 10))) (makes (step 0 5 Load 0 0) (stays)
+add_stepped_grows = makes (step 0 (first_ram_word + 8) Add 1 0) (does (fetched 0 (Amoadd true false false 5 11 10)) (makes (step 0 (first_ram_word + 4) Load 0 (encoding_of (Addi 10 0 (pos 1)) + 2 ^ 32 * encoding_of (Amoadd true false false 5 11 10))) (makes (step 0 5 Load 0 0) (stays)
     (record { behind = (tt, tt); acks = tt; draws_last = tt }))
     (record { behind = (tt, tt); acks = tt; draws_last = tt }))
-    (record { own = refl; fit = (omega arith, record {
-      runs = refl;
-      holds_none = refl;
-      not_due = refl;
-      ipi = 0;
-      loaded = inr (inl ((refl, refl, refl), tt));
-      quiet = refl;
-      shown = record { finds = λ x. 0; is_end = refl; stood = tt };
-      fetched = (refl, refl, refl, ((omega arith, omega arith, omega arith), refl));
-    }); pays = fetched_quiet 0 (Amoadd true false false 5 11 10) }))
+    (record {
+      own = refl;
+      fit = (
+        omega arith,
+        record {
+          runs = refl;
+          holds_none = refl;
+          not_due = refl;
+          ipi = 0;
+          loaded = inr (inl ((refl, refl, refl), tt));
+          quiet = refl;
+          shown = record { finds = λ x. 0; is_end = refl; stood = tt };
+          fetched = (refl, refl, refl, ((omega arith, omega arith, omega arith), refl));
+        },
+      );
+      pays = fetched_quiet 0 (Amoadd true false false 5 11 10);
+    }))
     (record { behind = (tt, tt); acks = tt; draws_last = tt })
 
-b4_grows : Grows two_harts 0 b3_added b4
+add_turn_grows : Grows two_harts 0 add_stepped add_turn
 unfolding name_of need_of done walk_of sbi_of perform own_executed flushing reads_of
-b4_grows = makes (step 0 8 Store 0 0) (does (added 0 (0)) (stays)
-    (record { own = refl; fit = (omega arith, record {
-      holds = refl;
-      shown = record { first_page = record { finds = λ x. 0; is_end = refl; stood = tt }; second_page = λ e. absurd (true≢false (sym e)) };
-      flushed = λ w s. tt;
-      right = λ w s. ap (λ x. perform (record w { memory = λ k. x }) 0 (part two_harts 0 b3_added).arch (Walked.Leaf 0xcf 0x80000000 0) Walked.PageFault (need_held (part two_harts 0 b3_added).arch (part two_harts 0 b3_added).held)) (sym (s.here.0 tt (λ e. absurd (cc (e)))));
-    }); pays = record { does = record { entry_is = refl; bytes_are = refl; reason_is = refl; starts_is = refl; stops_is = refl }; begins_not = refl } }))
+add_turn_grows = makes (step 0 8 Store 0 0) (does (added 0 (0)) (stays)
+    (record {
+      own = refl;
+      fit = (
+        omega arith,
+        record {
+          holds = refl;
+          shown = record { first_page = record { finds = λ x. 0; is_end = refl; stood = tt }; second_page = λ e. absurd (true≢false (sym e)) };
+          flushed = λ w s. tt;
+          right = λ w s. ap (λ x. perform (record w { memory = λ k. x }) 0 (part two_harts 0 add_stepped).arch (Walked.Leaf 0xcf 0x80000000 0) Walked.PageFault (need_held (part two_harts 0 add_stepped).arch (part two_harts 0 add_stepped).held)) (sym (s.here.0 tt (λ e. absurd (cc (e)))));
+        },
+      );
+      pays = record { does = record { entry_is = refl; bytes_are = refl; reason_is = refl; starts_is = refl; stops_is = refl }; begins_not = refl };
+    }))
     (record { behind = (tt, refl); acks = tt; draws_last = tt })
 
-c1_grows : Grows two_harts 0 c0 c1
+in_section_grows : Grows two_harts 0 cross_look in_section
 unfolding name_of need_of done walk_of sbi_of perform own_executed flushing reads_of
-c1_grows = makes (step 0 136 Load 0 0) (makes (step 0 24 Load 0 0) (makes (step 0 1 (Exchange 0) 1 0) (stays)
+in_section_grows = makes (step 0 136 Load 0 0) (makes (step 0 24 Load 0 0) (makes (step 0 1 (Exchange 0) 1 0) (stays)
     (record { behind = (tt, refl); acks = tt; draws_last = tt }))
     (record { behind = (tt, refl); acks = tt; draws_last = tt }))
     (record { behind = (tt, refl); acks = tt; draws_last = tt })
 
-c2_grows : Grows two_harts 0 c1 c2
+both_loaded_grows : Grows two_harts 0 in_section both_loaded
 unfolding name_of need_of done walk_of sbi_of perform own_executed flushing reads_of
-c2_grows = makes (step 0 (first_ram_word + 9) Load 0 0) (makes (step 0 (first_ram_word + 8) Load 0 1) (does (fetched 0 (Sd 11 10 (pos 4))) (makes (step 0 (first_ram_word + 5) Load 0 (encoding_of (Sd 11 10 (pos 4)) + 2 ^ 32 * encoding_of (Addi 16 0 (pos 1)))) (makes (step 0 5 Load 0 0) (stays)
+both_loaded_grows = makes (step 0 (first_ram_word + 9) Load 0 0) (makes (step 0 (first_ram_word + 8) Load 0 1) (does (fetched 0 (Sd 11 10 (pos 4))) (makes (step 0 (first_ram_word + 5) Load 0 (encoding_of (Sd 11 10 (pos 4)) + 2 ^ 32 * encoding_of (Addi 16 0 (pos 1)))) (makes (step 0 5 Load 0 0) (stays)
     (record { behind = (tt, tt); acks = tt; draws_last = tt }))
     (record { behind = (tt, tt); acks = tt; draws_last = tt }))
-    (record { own = refl; fit = (omega arith, record {
-      runs = refl;
-      holds_none = refl;
-      not_due = refl;
-      ipi = 0;
-      loaded = inr (inl ((refl, refl, refl), tt));
-      quiet = refl;
-      shown = record { finds = λ x. 0; is_end = refl; stood = tt };
-      fetched = (refl, refl, refl, ((omega arith, omega arith, (omega arith, omega arith)), refl));
-    }); pays = fetched_quiet 0 (Sd 11 10 (pos 4)) }))
+    (record {
+      own = refl;
+      fit = (
+        omega arith,
+        record {
+          runs = refl;
+          holds_none = refl;
+          not_due = refl;
+          ipi = 0;
+          loaded = inr (inl ((refl, refl, refl), tt));
+          quiet = refl;
+          shown = record { finds = λ x. 0; is_end = refl; stood = tt };
+          fetched = (refl, refl, refl, ((omega arith, omega arith, (omega arith, omega arith)), refl));
+        },
+      );
+      pays = fetched_quiet 0 (Sd 11 10 (pos 4));
+    }))
     (record { behind = (tt, tt); acks = tt; draws_last = tt }))
     (record { behind = (tt, tt); acks = tt; draws_last = tt })
 
-c3_grows : Grows two_harts 0 c2 c3
+both_stored_grows : Grows two_harts 0 both_loaded both_stored
 unfolding name_of need_of done walk_of sbi_of perform own_executed flushing reads_of
-c3_grows = makes (step 0 (first_ram_word + 9) Store 0 0) (makes (step 0 (first_ram_word + 8) Store (1 + 2 ^ 32) 0) (stays)
+both_stored_grows = makes (step 0 (first_ram_word + 9) Store 0 0) (makes (step 0 (first_ram_word + 8) Store (1 + 2 ^ 32) 0) (stays)
     (record { behind = (tt, tt); acks = tt; draws_last = tt }))
     (record { behind = ((refl, refl), λ e. apart (first_ram_word + 8) (first_ram_word + 9) refl e); acks = tt; draws_last = tt })
 
-c4_grows : Grows two_harts 0 c3 c4
+cross_turn_grows : Grows two_harts 0 both_stored cross_turn
 unfolding name_of need_of done walk_of sbi_of perform own_executed flushing reads_of
-c4_grows = makes (step 0 1 Store 0 0) (does (crossed) (stays)
-    (record { own = refl; fit = (omega arith, record {
-      holds = refl;
-      shown = record { first_page = record { finds = λ x. 0; is_end = refl; stood = tt }; second_page = λ e. absurd (true≢false (sym e)) };
-      flushed = λ w s. tt;
-      right = λ w s. λ i. perform (record w { memory = λ k. if k == first_ram_word + 8 then sym (s.section (refl, refl) (first_ram_word + 8) 1 tt refl) i else sym (s.section (refl, refl) (first_ram_word + 9) 0 tt refl) i }) 0 (part two_harts 0 c3).arch (Walked.Leaf 0xcf 0x80000000 0) Walked.PageFault (need_held (part two_harts 0 c3).arch (part two_harts 0 c3).held);
-    }); pays = record { does = record { entry_is = refl; bytes_are = refl; reason_is = refl; starts_is = refl; stops_is = refl }; begins_not = refl } }))
+cross_turn_grows = makes (step 0 1 Store 0 0) (does (crossed) (stays)
+    (record {
+      own = refl;
+      fit = (
+        omega arith,
+        record {
+          holds = refl;
+          shown = record { first_page = record { finds = λ x. 0; is_end = refl; stood = tt }; second_page = λ e. absurd (true≢false (sym e)) };
+          flushed = λ w s. tt;
+          right = λ w s. λ i. perform (record w { memory = λ k. if k == first_ram_word + 8 then sym (s.section (refl, refl) (first_ram_word + 8) 1 tt refl) i else sym (s.section (refl, refl) (first_ram_word + 9) 0 tt refl) i }) 0 (part two_harts 0 both_stored).arch (Walked.Leaf 0xcf 0x80000000 0) Walked.PageFault (need_held (part two_harts 0 both_stored).arch (part two_harts 0 both_stored).held);
+        },
+      );
+      pays = record { does = record { entry_is = refl; bytes_are = refl; reason_is = refl; starts_is = refl; stops_is = refl }; begins_not = refl };
+    }))
     (record { behind = (tt, refl); acks = tt; draws_last = tt })
 
-d1_grows : Grows two_harts 0 d0 d1
+stop_inside_grows : Grows two_harts 0 stop_look stop_inside
 unfolding name_of need_of done walk_of sbi_of perform own_executed flushing reads_of
-d1_grows = makes (step 0 1 Load 0 0) (makes (step 0 8 Store 1 0) (stays)
+stop_inside_grows = makes (step 0 1 Load 0 0) (makes (step 0 8 Store 1 0) (stays)
     (record { behind = (tt, refl); acks = tt; draws_last = tt }))
     (record { behind = (tt, refl); acks = tt; draws_last = tt })
 
-d2_grows : Grows two_harts 0 d1 d2
+stop_code_grows : Grows two_harts 0 stop_inside stop_code
 unfolding name_of need_of done walk_of sbi_of perform own_executed flushing reads_of
-d2_grows = does (executed 0) (does (fetched 0 (Addi 16 0 (pos 1))) (makes (step 0 (first_ram_word + 5) Load 0 (encoding_of (Sd 11 10 (pos 4)) + 2 ^ 32 * encoding_of (Addi 16 0 (pos 1)))) (makes (step 0 5 Load 0 0) (stays)
+stop_code_grows = does (executed 0) (does (fetched 0 (Addi 16 0 (pos 1))) (makes (step 0 (first_ram_word + 5) Load 0 (encoding_of (Sd 11 10 (pos 4)) + 2 ^ 32 * encoding_of (Addi 16 0 (pos 1)))) (makes (step 0 5 Load 0 0) (stays)
     (record { behind = (tt, tt); acks = tt; draws_last = tt }))
     (record { behind = (tt, tt); acks = tt; draws_last = tt }))
-    (record { own = refl; fit = (omega arith, record {
-      runs = refl;
-      holds_none = refl;
-      not_due = refl;
-      ipi = 0;
-      loaded = inr (inl ((refl, refl, refl), tt));
-      quiet = refl;
-      shown = record { finds = λ x. 0; is_end = refl; stood = tt };
-      fetched = (refl, refl, refl, ((omega arith, omega arith, (omega arith, omega arith)), refl));
-    }); pays = fetched_quiet 0 (Addi 16 0 (pos 1)) }))
+    (record {
+      own = refl;
+      fit = (
+        omega arith,
+        record {
+          runs = refl;
+          holds_none = refl;
+          not_due = refl;
+          ipi = 0;
+          loaded = inr (inl ((refl, refl, refl), tt));
+          quiet = refl;
+          shown = record { finds = λ x. 0; is_end = refl; stood = tt };
+          fetched = (refl, refl, refl, ((omega arith, omega arith, (omega arith, omega arith)), refl));
+        },
+      );
+      pays = fetched_quiet 0 (Addi 16 0 (pos 1));
+    }))
     (record { own = refl; fit = (omega arith, record { holds = refl; shown = tt; flushed = λ w s. tt; right = λ w s. refl }); pays = executed_quiet 0 })
 
-d3_grows : Grows two_harts 0 d2 d3
+stop_turn_grows : Grows two_harts 0 stop_code stop_turn
 unfolding name_of need_of done walk_of sbi_of perform own_executed flushing reads_of
-d3_grows = makes (step 0 8 Store 0 0) (makes (step 0 3 Add minus_one 2) (does (stopping) (makes (step 0 13 Store 1 0) (does (fetched 0 (Ecall)) (makes (step 0 (first_ram_word + 6) Load 0 (encoding_of (Ecall) + 2 ^ 32 * encoding_of (Ecall))) (makes (step 0 5 Load 0 0) (stays)
+stop_turn_grows = makes (step 0 8 Store 0 0) (makes (step 0 3 Add minus_one 2) (does (stopping) (makes (step 0 13 Store 1 0) (does (fetched 0 (Ecall)) (makes (step 0 (first_ram_word + 6) Load 0 (encoding_of (Ecall) + 2 ^ 32 * encoding_of (Ecall))) (makes (step 0 5 Load 0 0) (stays)
     (record { behind = (tt, tt); acks = tt; draws_last = tt }))
     (record { behind = (tt, tt); acks = tt; draws_last = tt }))
-    (record { own = refl; fit = (omega arith, record {
-      runs = refl;
-      holds_none = refl;
-      not_due = refl;
-      ipi = 0;
-      loaded = inr (inl ((refl, refl, refl), tt));
-      quiet = refl;
-      shown = record { finds = λ x. 0; is_end = refl; stood = tt };
-      fetched = (refl, refl, refl, (tt, refl));
-    }); pays = fetched_quiet 0 (Ecall) }))
+    (record {
+      own = refl;
+      fit = (
+        omega arith,
+        record {
+          runs = refl;
+          holds_none = refl;
+          not_due = refl;
+          ipi = 0;
+          loaded = inr (inl ((refl, refl, refl), tt));
+          quiet = refl;
+          shown = record { finds = λ x. 0; is_end = refl; stood = tt };
+          fetched = (refl, refl, refl, (tt, refl));
+        },
+      );
+      pays = fetched_quiet 0 (Ecall);
+    }))
     (record { behind = (tt, inr (refl, omega arith)); acks = tt; draws_last = tt }))
     (record { own = refl; fit = (omega arith, record { holds = refl; shown = tt; flushed = λ w s. tt; right = λ w s. refl }); pays = record { does = record { entry_is = refl; bytes_are = refl; reason_is = refl; starts_is = refl; stops_is = refl }; begins_not = refl } }))
     (record { behind = (tt, tt); acks = tt; draws_last = tt }))
     (record { behind = (tt, refl); acks = tt; draws_last = tt })
 
-a4_closed : IsClosed two_harts 0 a4
+start_turn_closed : IsClosed two_harts 0 start_turn
 unfolding name_of need_of done walk_of sbi_of perform own_executed flushing reads_of
-a4_closed = record {
+start_turn_closed = record {
   clear = tt;
   none_drawn = refl;
   none_left = refl;
@@ -446,12 +558,12 @@ a4_closed = record {
   last = λ e. absurd (true≢false (sym e));
   left = refl;
   full = λ e. absurd (cc (e));
-  marks = λ page. unmarked two_harts 0 page a4 refl;
+  marks = λ page. unmarked two_harts 0 page start_turn refl;
 }
 
-b4_closed : IsClosed two_harts 0 b4
+add_turn_closed : IsClosed two_harts 0 add_turn
 unfolding name_of need_of done walk_of sbi_of perform own_executed flushing reads_of
-b4_closed = record {
+add_turn_closed = record {
   clear = tt;
   none_drawn = refl;
   none_left = refl;
@@ -459,12 +571,12 @@ b4_closed = record {
   last = λ e. absurd (true≢false (sym e));
   left = refl;
   full = λ e. absurd (cc (e));
-  marks = λ page. unmarked two_harts 0 page b4 refl;
+  marks = λ page. unmarked two_harts 0 page add_turn refl;
 }
 
-c4_closed : IsClosed two_harts 0 c4
+cross_turn_closed : IsClosed two_harts 0 cross_turn
 unfolding name_of need_of done walk_of sbi_of perform own_executed flushing reads_of
-c4_closed = record {
+cross_turn_closed = record {
   clear = tt;
   none_drawn = refl;
   none_left = refl;
@@ -472,12 +584,12 @@ c4_closed = record {
   last = λ e. absurd (true≢false (sym e));
   left = refl;
   full = λ e. absurd (cc (e));
-  marks = λ page. unmarked two_harts 0 page c4 refl;
+  marks = λ page. unmarked two_harts 0 page cross_turn refl;
 }
 
-d3_closed : IsClosed two_harts 0 d3
+stop_turn_closed : IsClosed two_harts 0 stop_turn
 unfolding name_of need_of done walk_of sbi_of perform own_executed flushing reads_of
-d3_closed = record {
+stop_turn_closed = record {
   clear = tt;
   none_drawn = refl;
   none_left = refl;
@@ -485,44 +597,44 @@ d3_closed = record {
   last = λ e. absurd (true≢false (sym e));
   left = refl;
   full = λ e. absurd (cc (e));
-  marks = λ page. unmarked two_harts 0 page d3 refl;
+  marks = λ page. unmarked two_harts 0 page stop_turn refl;
 }
 
 -- 4 turns
-pub first_hart_chain : IsChain two_harts 0 4 d3
+pub first_hart_chain : IsChain two_harts 0 4 stop_turn
 unfolding name_of
-first_hart_chain = whole (turn (turn (turn (turn (none) (record { look = step 0 2 Load 0 0; looks = (refl, refl); grows = grows_then two_harts 0 a0 a3 (grows_then two_harts 0 a0 a2_4 (grows_then two_harts 0 a0 a2_3 (grows_then two_harts 0 a0 a2_2 (grows_then two_harts 0 a0 a2_1 (grows_then two_harts 0 a0 a2_0 (grows_then two_harts 0 a0 a1 (grows_then two_harts 0 a0 a0 (stays) a1_grows) a2_0_grows) a2_1_grows) a2_2_grows) a2_3_grows) a2_4_grows) a3_grows) a4_grows; closed = a4_closed })) (record { look = step 0 2 Load 0 0; looks = (refl, refl); grows = grows_then two_harts 0 b0 b3_added (grows_then two_harts 0 b0 b2_2 (grows_then two_harts 0 b0 b2_1 (grows_then two_harts 0 b0 b2_0 (grows_then two_harts 0 b0 b1 (grows_then two_harts 0 b0 b0 (stays) b1_grows) b2_0_grows) b2_1_grows) b2_2_grows) b3_added_grows) b4_grows; closed = b4_closed })) (record { look = step 0 2 Load 0 0; looks = (refl, refl); grows = grows_then two_harts 0 c0 c3 (grows_then two_harts 0 c0 c2 (grows_then two_harts 0 c0 c1 (grows_then two_harts 0 c0 c0 (stays) c1_grows) c2_grows) c3_grows) c4_grows; closed = c4_closed })) (record { look = step 0 2 Load 0 0; looks = (refl, refl); grows = grows_then two_harts 0 d0 d2 (grows_then two_harts 0 d0 d1 (grows_then two_harts 0 d0 d0 (stays) d1_grows) d2_grows) d3_grows; closed = d3_closed }))
+first_hart_chain = whole (turn (turn (turn (turn (none) (record { look = step 0 2 Load 0 0; looks = (refl, refl); grows = grows_then two_harts 0 start_look start_called (grows_then two_harts 0 start_look start_code_5 (grows_then two_harts 0 start_look start_code_4 (grows_then two_harts 0 start_look start_code_3 (grows_then two_harts 0 start_look start_code_2 (grows_then two_harts 0 start_look start_code_1 (grows_then two_harts 0 start_look start_inside (grows_then two_harts 0 start_look start_look (stays) start_inside_grows) start_code_1_grows) start_code_2_grows) start_code_3_grows) start_code_4_grows) start_code_5_grows) start_called_grows) start_turn_grows; closed = start_turn_closed })) (record { look = step 0 2 Load 0 0; looks = (refl, refl); grows = grows_then two_harts 0 add_look add_stepped (grows_then two_harts 0 add_look add_code_3 (grows_then two_harts 0 add_look add_code_2 (grows_then two_harts 0 add_look add_code_1 (grows_then two_harts 0 add_look add_inside (grows_then two_harts 0 add_look add_look (stays) add_inside_grows) add_code_1_grows) add_code_2_grows) add_code_3_grows) add_stepped_grows) add_turn_grows; closed = add_turn_closed })) (record { look = step 0 2 Load 0 0; looks = (refl, refl); grows = grows_then two_harts 0 cross_look both_stored (grows_then two_harts 0 cross_look both_loaded (grows_then two_harts 0 cross_look in_section (grows_then two_harts 0 cross_look cross_look (stays) in_section_grows) both_loaded_grows) both_stored_grows) cross_turn_grows; closed = cross_turn_closed })) (record { look = step 0 2 Load 0 0; looks = (refl, refl); grows = grows_then two_harts 0 stop_look stop_code (grows_then two_harts 0 stop_look stop_inside (grows_then two_harts 0 stop_look stop_look (stays) stop_inside_grows) stop_code_grows) stop_turn_grows; closed = stop_turn_closed }))
 
-abbrev pub p0 : Log
-p0 = made (step 1 2 Load 0 0) ∷ []
+abbrev pub begin_look : Log
+begin_look = made (step 1 2 Load 0 0) ∷ []
 
-abbrev pub p1 : Log
-p1 = did (Begin 1 0x80000018 0) ∷ made (step 1 29 Store 0 0) ∷ did (Flushes 1 Full) ∷ made (step 1 27 Store 0 0) ∷ made (step 1 31 Load 0 0) ∷ made (step 1 30 Load 0 0x80000018) ∷ made (step 1 27 (Exchange 0) 2 0) ∷ made (step 1 29 Load 0 2) ∷ p0
+abbrev pub begin_turn : Log
+begin_turn = did (Begin 1 0x80000018 0) ∷ made (step 1 29 Store 0 0) ∷ did (Flushes 1 Full) ∷ made (step 1 27 Store 0 0) ∷ made (step 1 31 Load 0 0) ∷ made (step 1 30 Load 0 0x80000018) ∷ made (step 1 27 (Exchange 0) 2 0) ∷ made (step 1 29 Load 0 2) ∷ begin_look
 
-abbrev pub q0 : Log
-q0 = made (step 1 2 Load 0 0) ∷ p1
+abbrev pub second_look : Log
+second_look = made (step 1 2 Load 0 0) ∷ begin_turn
 
-abbrev pub q1 : Log
-q1 = made (step 1 1 Load 0 0) ∷ made (step 1 24 Store 1 0) ∷ q0
+abbrev pub second_inside : Log
+second_inside = made (step 1 1 Load 0 0) ∷ made (step 1 24 Store 1 0) ∷ second_look
 
-abbrev pub q2_0 : Log
-q2_0 = did (executed 1) ∷ did (fetched 1 (Auipc 11 (pos 0))) ∷ made (step 1 (first_ram_word + 3) Load 0 (encoding_of (Auipc 11 (pos 0)) + 2 ^ 32 * encoding_of (Addi 11 11 (pos 40)))) ∷ made (step 1 5 Load 0 0) ∷ q1
+abbrev pub second_code_1 : Log
+second_code_1 = did (executed 1) ∷ did (fetched 1 (Auipc 11 (pos 0))) ∷ made (step 1 (first_ram_word + 3) Load 0 (encoding_of (Auipc 11 (pos 0)) + 2 ^ 32 * encoding_of (Addi 11 11 (pos 40)))) ∷ made (step 1 5 Load 0 0) ∷ second_inside
 
-abbrev pub q2_1 : Log
-q2_1 = did (executed 1) ∷ did (fetched 1 (Addi 11 11 (pos 40))) ∷ made (step 1 (first_ram_word + 3) Load 0 (encoding_of (Auipc 11 (pos 0)) + 2 ^ 32 * encoding_of (Addi 11 11 (pos 40)))) ∷ made (step 1 5 Load 0 0) ∷ q2_0
+abbrev pub second_code_2 : Log
+second_code_2 = did (executed 1) ∷ did (fetched 1 (Addi 11 11 (pos 40))) ∷ made (step 1 (first_ram_word + 3) Load 0 (encoding_of (Auipc 11 (pos 0)) + 2 ^ 32 * encoding_of (Addi 11 11 (pos 40)))) ∷ made (step 1 5 Load 0 0) ∷ second_code_1
 
-abbrev pub q2_2 : Log
-q2_2 = did (executed 1) ∷ did (fetched 1 (Addi 10 0 (pos 1))) ∷ made (step 1 (first_ram_word + 4) Load 0 (encoding_of (Addi 10 0 (pos 1)) + 2 ^ 32 * encoding_of (Amoadd true false false 5 11 10))) ∷ made (step 1 5 Load 0 0) ∷ q2_1
+abbrev pub second_code_3 : Log
+second_code_3 = did (executed 1) ∷ did (fetched 1 (Addi 10 0 (pos 1))) ∷ made (step 1 (first_ram_word + 4) Load 0 (encoding_of (Addi 10 0 (pos 1)) + 2 ^ 32 * encoding_of (Amoadd true false false 5 11 10))) ∷ made (step 1 5 Load 0 0) ∷ second_code_2
 
-abbrev pub q3_added : Log
-q3_added = made (step 1 (first_ram_word + 8) Add 1 (1 + 2 ^ 32)) ∷ did (fetched 1 (Amoadd true false false 5 11 10)) ∷ made (step 1 (first_ram_word + 4) Load 0 (encoding_of (Addi 10 0 (pos 1)) + 2 ^ 32 * encoding_of (Amoadd true false false 5 11 10))) ∷ made (step 1 5 Load 0 0) ∷ q2_2
+abbrev pub second_stepped : Log
+second_stepped = made (step 1 (first_ram_word + 8) Add 1 (1 + 2 ^ 32)) ∷ did (fetched 1 (Amoadd true false false 5 11 10)) ∷ made (step 1 (first_ram_word + 4) Load 0 (encoding_of (Addi 10 0 (pos 1)) + 2 ^ 32 * encoding_of (Amoadd true false false 5 11 10))) ∷ made (step 1 5 Load 0 0) ∷ second_code_3
 
-abbrev pub q4 : Log
-q4 = made (step 1 24 Store 0 0) ∷ did (added 1 ((1 + 2 ^ 32))) ∷ q3_added
+abbrev pub second_turn : Log
+second_turn = made (step 1 24 Store 0 0) ∷ did (added 1 ((1 + 2 ^ 32))) ∷ second_stepped
 
-p1_grows : Grows two_harts 1 p0 p1
+begin_turn_grows : Grows two_harts 1 begin_look begin_turn
 unfolding name_of need_of done walk_of sbi_of perform own_executed flushing reads_of
-p1_grows = does (Begin 1 0x80000018 0) (makes (step 1 29 Store 0 0) (does (Flushes 1 Full) (makes (step 1 27 Store 0 0) (makes (step 1 31 Load 0 0) (makes (step 1 30 Load 0 0x80000018) (makes (step 1 27 (Exchange 0) 2 0) (makes (step 1 29 Load 0 2) (stays)
+begin_turn_grows = does (Begin 1 0x80000018 0) (makes (step 1 29 Store 0 0) (does (Flushes 1 Full) (makes (step 1 27 Store 0 0) (makes (step 1 31 Load 0 0) (makes (step 1 30 Load 0 0x80000018) (makes (step 1 27 (Exchange 0) 2 0) (makes (step 1 29 Load 0 2) (stays)
     (record { behind = (tt, tt); acks = tt; draws_last = tt }))
     (record { behind = (tt, tt); acks = tt; draws_last = tt }))
     (record { behind = (tt, tt); acks = tt; draws_last = tt }))
@@ -532,94 +644,129 @@ p1_grows = does (Begin 1 0x80000018 0) (makes (step 1 29 Store 0 0) (does (Flush
     (record { behind = (tt, inr (refl, omega arith)); acks = tt; draws_last = tt }))
     (record { own = refl; fit = (omega arith, record { not_due = refl; stored = (refl, refl, refl); at_is = refl; opaque_is = refl; flushed_all = refl }); pays = (0x80000018, 0, refl) })
 
-q1_grows : Grows two_harts 1 q0 q1
+second_inside_grows : Grows two_harts 1 second_look second_inside
 unfolding name_of need_of done walk_of sbi_of perform own_executed flushing reads_of
-q1_grows = makes (step 1 1 Load 0 0) (makes (step 1 24 Store 1 0) (stays)
+second_inside_grows = makes (step 1 1 Load 0 0) (makes (step 1 24 Store 1 0) (stays)
     (record { behind = (tt, refl); acks = tt; draws_last = tt }))
     (record { behind = (tt, refl); acks = tt; draws_last = tt })
 
-q2_0_grows : Grows two_harts 1 q1 q2_0
+second_code_1_grows : Grows two_harts 1 second_inside second_code_1
 unfolding name_of need_of done walk_of sbi_of perform own_executed flushing reads_of
-q2_0_grows = does (executed 1) (does (fetched 1 (Auipc 11 (pos 0))) (makes (step 1 (first_ram_word + 3) Load 0 (encoding_of (Auipc 11 (pos 0)) + 2 ^ 32 * encoding_of (Addi 11 11 (pos 40)))) (makes (step 1 5 Load 0 0) (stays)
+second_code_1_grows = does (executed 1) (does (fetched 1 (Auipc 11 (pos 0))) (makes (step 1 (first_ram_word + 3) Load 0 (encoding_of (Auipc 11 (pos 0)) + 2 ^ 32 * encoding_of (Addi 11 11 (pos 40)))) (makes (step 1 5 Load 0 0) (stays)
     (record { behind = (tt, tt); acks = tt; draws_last = tt }))
     (record { behind = (tt, tt); acks = tt; draws_last = tt }))
-    (record { own = refl; fit = (omega arith, record {
-      runs = refl;
-      holds_none = refl;
-      not_due = refl;
-      ipi = 0;
-      loaded = inr (inl ((refl, refl, refl), tt));
-      quiet = refl;
-      shown = record { finds = λ x. 0; is_end = refl; stood = tt };
-      fetched = (refl, refl, refl, ((omega arith, (omega arith, omega arith), refl), refl));
-    }); pays = fetched_quiet 1 (Auipc 11 (pos 0)) }))
+    (record {
+      own = refl;
+      fit = (
+        omega arith,
+        record {
+          runs = refl;
+          holds_none = refl;
+          not_due = refl;
+          ipi = 0;
+          loaded = inr (inl ((refl, refl, refl), tt));
+          quiet = refl;
+          shown = record { finds = λ x. 0; is_end = refl; stood = tt };
+          fetched = (refl, refl, refl, ((omega arith, (omega arith, omega arith), refl), refl));
+        },
+      );
+      pays = fetched_quiet 1 (Auipc 11 (pos 0));
+    }))
     (record { own = refl; fit = (omega arith, record { holds = refl; shown = tt; flushed = λ w s. tt; right = λ w s. refl }); pays = executed_quiet 1 })
 
-q2_1_grows : Grows two_harts 1 q2_0 q2_1
+second_code_2_grows : Grows two_harts 1 second_code_1 second_code_2
 unfolding name_of need_of done walk_of sbi_of perform own_executed flushing reads_of
-q2_1_grows = does (executed 1) (does (fetched 1 (Addi 11 11 (pos 40))) (makes (step 1 (first_ram_word + 3) Load 0 (encoding_of (Auipc 11 (pos 0)) + 2 ^ 32 * encoding_of (Addi 11 11 (pos 40)))) (makes (step 1 5 Load 0 0) (stays)
+second_code_2_grows = does (executed 1) (does (fetched 1 (Addi 11 11 (pos 40))) (makes (step 1 (first_ram_word + 3) Load 0 (encoding_of (Auipc 11 (pos 0)) + 2 ^ 32 * encoding_of (Addi 11 11 (pos 40)))) (makes (step 1 5 Load 0 0) (stays)
     (record { behind = (tt, tt); acks = tt; draws_last = tt }))
     (record { behind = (tt, tt); acks = tt; draws_last = tt }))
-    (record { own = refl; fit = (omega arith, record {
-      runs = refl;
-      holds_none = refl;
-      not_due = refl;
-      ipi = 0;
-      loaded = inr (inl ((refl, refl, refl), tt));
-      quiet = refl;
-      shown = record { finds = λ x. 0; is_end = refl; stood = tt };
-      fetched = (refl, refl, refl, ((omega arith, omega arith, (omega arith, omega arith)), refl));
-    }); pays = fetched_quiet 1 (Addi 11 11 (pos 40)) }))
+    (record {
+      own = refl;
+      fit = (
+        omega arith,
+        record {
+          runs = refl;
+          holds_none = refl;
+          not_due = refl;
+          ipi = 0;
+          loaded = inr (inl ((refl, refl, refl), tt));
+          quiet = refl;
+          shown = record { finds = λ x. 0; is_end = refl; stood = tt };
+          fetched = (refl, refl, refl, ((omega arith, omega arith, (omega arith, omega arith)), refl));
+        },
+      );
+      pays = fetched_quiet 1 (Addi 11 11 (pos 40));
+    }))
     (record { own = refl; fit = (omega arith, record { holds = refl; shown = tt; flushed = λ w s. tt; right = λ w s. refl }); pays = executed_quiet 1 })
 
-q2_2_grows : Grows two_harts 1 q2_1 q2_2
+second_code_3_grows : Grows two_harts 1 second_code_2 second_code_3
 unfolding name_of need_of done walk_of sbi_of perform own_executed flushing reads_of
-q2_2_grows = does (executed 1) (does (fetched 1 (Addi 10 0 (pos 1))) (makes (step 1 (first_ram_word + 4) Load 0 (encoding_of (Addi 10 0 (pos 1)) + 2 ^ 32 * encoding_of (Amoadd true false false 5 11 10))) (makes (step 1 5 Load 0 0) (stays)
+second_code_3_grows = does (executed 1) (does (fetched 1 (Addi 10 0 (pos 1))) (makes (step 1 (first_ram_word + 4) Load 0 (encoding_of (Addi 10 0 (pos 1)) + 2 ^ 32 * encoding_of (Amoadd true false false 5 11 10))) (makes (step 1 5 Load 0 0) (stays)
     (record { behind = (tt, tt); acks = tt; draws_last = tt }))
     (record { behind = (tt, tt); acks = tt; draws_last = tt }))
-    (record { own = refl; fit = (omega arith, record {
-      runs = refl;
-      holds_none = refl;
-      not_due = refl;
-      ipi = 0;
-      loaded = inr (inl ((refl, refl, refl), tt));
-      quiet = refl;
-      shown = record { finds = λ x. 0; is_end = refl; stood = tt };
-      fetched = (refl, refl, refl, ((omega arith, omega arith, (omega arith, omega arith)), refl));
-    }); pays = fetched_quiet 1 (Addi 10 0 (pos 1)) }))
+    (record {
+      own = refl;
+      fit = (
+        omega arith,
+        record {
+          runs = refl;
+          holds_none = refl;
+          not_due = refl;
+          ipi = 0;
+          loaded = inr (inl ((refl, refl, refl), tt));
+          quiet = refl;
+          shown = record { finds = λ x. 0; is_end = refl; stood = tt };
+          fetched = (refl, refl, refl, ((omega arith, omega arith, (omega arith, omega arith)), refl));
+        },
+      );
+      pays = fetched_quiet 1 (Addi 10 0 (pos 1));
+    }))
     (record { own = refl; fit = (omega arith, record { holds = refl; shown = tt; flushed = λ w s. tt; right = λ w s. refl }); pays = executed_quiet 1 })
 
-q3_added_grows : Grows two_harts 1 q2_2 q3_added
+second_stepped_grows : Grows two_harts 1 second_code_3 second_stepped
 unfolding name_of need_of done walk_of sbi_of perform own_executed flushing reads_of
-q3_added_grows = makes (step 1 (first_ram_word + 8) Add 1 (1 + 2 ^ 32)) (does (fetched 1 (Amoadd true false false 5 11 10)) (makes (step 1 (first_ram_word + 4) Load 0 (encoding_of (Addi 10 0 (pos 1)) + 2 ^ 32 * encoding_of (Amoadd true false false 5 11 10))) (makes (step 1 5 Load 0 0) (stays)
+second_stepped_grows = makes (step 1 (first_ram_word + 8) Add 1 (1 + 2 ^ 32)) (does (fetched 1 (Amoadd true false false 5 11 10)) (makes (step 1 (first_ram_word + 4) Load 0 (encoding_of (Addi 10 0 (pos 1)) + 2 ^ 32 * encoding_of (Amoadd true false false 5 11 10))) (makes (step 1 5 Load 0 0) (stays)
     (record { behind = (tt, tt); acks = tt; draws_last = tt }))
     (record { behind = (tt, tt); acks = tt; draws_last = tt }))
-    (record { own = refl; fit = (omega arith, record {
-      runs = refl;
-      holds_none = refl;
-      not_due = refl;
-      ipi = 0;
-      loaded = inr (inl ((refl, refl, refl), tt));
-      quiet = refl;
-      shown = record { finds = λ x. 0; is_end = refl; stood = tt };
-      fetched = (refl, refl, refl, ((omega arith, omega arith, omega arith), refl));
-    }); pays = fetched_quiet 1 (Amoadd true false false 5 11 10) }))
+    (record {
+      own = refl;
+      fit = (
+        omega arith,
+        record {
+          runs = refl;
+          holds_none = refl;
+          not_due = refl;
+          ipi = 0;
+          loaded = inr (inl ((refl, refl, refl), tt));
+          quiet = refl;
+          shown = record { finds = λ x. 0; is_end = refl; stood = tt };
+          fetched = (refl, refl, refl, ((omega arith, omega arith, omega arith), refl));
+        },
+      );
+      pays = fetched_quiet 1 (Amoadd true false false 5 11 10);
+    }))
     (record { behind = (tt, tt); acks = tt; draws_last = tt })
 
-q4_grows : Grows two_harts 1 q3_added q4
+second_turn_grows : Grows two_harts 1 second_stepped second_turn
 unfolding name_of need_of done walk_of sbi_of perform own_executed flushing reads_of
-q4_grows = makes (step 1 24 Store 0 0) (does (added 1 ((1 + 2 ^ 32))) (stays)
-    (record { own = refl; fit = (omega arith, record {
-      holds = refl;
-      shown = record { first_page = record { finds = λ x. 0; is_end = refl; stood = tt }; second_page = λ e. absurd (true≢false (sym e)) };
-      flushed = λ w s. tt;
-      right = λ w s. ap (λ x. perform (record w { memory = λ k. x }) 1 (part two_harts 1 q3_added).arch (Walked.Leaf 0xcf 0x80000000 0) Walked.PageFault (need_held (part two_harts 1 q3_added).arch (part two_harts 1 q3_added).held)) (sym (s.here.0 tt (λ e. absurd (cc (e)))));
-    }); pays = record { does = record { entry_is = refl; bytes_are = refl; reason_is = refl; starts_is = refl; stops_is = refl }; begins_not = refl } }))
+second_turn_grows = makes (step 1 24 Store 0 0) (does (added 1 ((1 + 2 ^ 32))) (stays)
+    (record {
+      own = refl;
+      fit = (
+        omega arith,
+        record {
+          holds = refl;
+          shown = record { first_page = record { finds = λ x. 0; is_end = refl; stood = tt }; second_page = λ e. absurd (true≢false (sym e)) };
+          flushed = λ w s. tt;
+          right = λ w s. ap (λ x. perform (record w { memory = λ k. x }) 1 (part two_harts 1 second_stepped).arch (Walked.Leaf 0xcf 0x80000000 0) Walked.PageFault (need_held (part two_harts 1 second_stepped).arch (part two_harts 1 second_stepped).held)) (sym (s.here.0 tt (λ e. absurd (cc (e)))));
+        },
+      );
+      pays = record { does = record { entry_is = refl; bytes_are = refl; reason_is = refl; starts_is = refl; stops_is = refl }; begins_not = refl };
+    }))
     (record { behind = (tt, refl); acks = tt; draws_last = tt })
 
-p1_closed : IsClosed two_harts 1 p1
+begin_turn_closed : IsClosed two_harts 1 begin_turn
 unfolding name_of need_of done walk_of sbi_of perform own_executed flushing reads_of
-p1_closed = record {
+begin_turn_closed = record {
   clear = tt;
   none_drawn = refl;
   none_left = refl;
@@ -627,12 +774,12 @@ p1_closed = record {
   last = λ e. absurd (true≢false (sym e));
   left = refl;
   full = λ e. absurd (cc (e));
-  marks = λ page. unmarked two_harts 1 page p1 refl;
+  marks = λ page. unmarked two_harts 1 page begin_turn refl;
 }
 
-q4_closed : IsClosed two_harts 1 q4
+second_turn_closed : IsClosed two_harts 1 second_turn
 unfolding name_of need_of done walk_of sbi_of perform own_executed flushing reads_of
-q4_closed = record {
+second_turn_closed = record {
   clear = tt;
   none_drawn = refl;
   none_left = refl;
@@ -640,10 +787,10 @@ q4_closed = record {
   last = λ e. absurd (true≢false (sym e));
   left = refl;
   full = λ e. absurd (cc (e));
-  marks = λ page. unmarked two_harts 1 page q4 refl;
+  marks = λ page. unmarked two_harts 1 page second_turn refl;
 }
 
 -- 2 turns
-pub second_hart_chain : IsChain two_harts 1 2 q4
+pub second_hart_chain : IsChain two_harts 1 2 second_turn
 unfolding name_of
-second_hart_chain = whole (turn (turn (none) (record { look = step 1 2 Load 0 0; looks = (refl, refl); grows = grows_then two_harts 1 p0 p0 (stays) p1_grows; closed = p1_closed })) (record { look = step 1 2 Load 0 0; looks = (refl, refl); grows = grows_then two_harts 1 q0 q3_added (grows_then two_harts 1 q0 q2_2 (grows_then two_harts 1 q0 q2_1 (grows_then two_harts 1 q0 q2_0 (grows_then two_harts 1 q0 q1 (grows_then two_harts 1 q0 q0 (stays) q1_grows) q2_0_grows) q2_1_grows) q2_2_grows) q3_added_grows) q4_grows; closed = q4_closed }))
+second_hart_chain = whole (turn (turn (none) (record { look = step 1 2 Load 0 0; looks = (refl, refl); grows = grows_then two_harts 1 begin_look begin_look (stays) begin_turn_grows; closed = begin_turn_closed })) (record { look = step 1 2 Load 0 0; looks = (refl, refl); grows = grows_then two_harts 1 second_look second_stepped (grows_then two_harts 1 second_look second_code_3 (grows_then two_harts 1 second_look second_code_2 (grows_then two_harts 1 second_look second_code_1 (grows_then two_harts 1 second_look second_inside (grows_then two_harts 1 second_look second_look (stays) second_inside_grows) second_code_1_grows) second_code_2_grows) second_code_3_grows) second_stepped_grows) second_turn_grows; closed = second_turn_closed }))
