@@ -1,13 +1,13 @@
 -- What the events at a step say of the step's word: each step on a word that the reference machine has too belongs to an event.
-use Rattle.std.specs.Prelude.{◌≡◌, ◌≢◌, ◌≤◌, ◌<◌, ℕ, suc, ◌+◌, ◌-◌, ◌*◌, ◌^◌, Bool, true, false, List, [], ◌∷◌, ◌++◌, length, Option, Some, None}
+use Rattle.std.specs.Prelude.{◌≡◌, ◌≢◌, ◌≤◌, ◌<◌, ℕ, suc, ◌+◌, ◌-◌, true, false, List, [], ◌∷◌, ◌++◌, length, Some, None}
 use Rattle.step_laws.specs.declared.steps.WordOp.{WordOp}
 use Rattle.step_laws.specs.declared.steps.WordOp.TheVariants.{Load, Store, Add, Exchange}
 use Rattle.step_laws.specs.Steps.{new_of}
-use Rattle.step_laws.specs.Map.{Word, Pend, Run, Stop, Cons, Ipi, Hsm, Start, Opaque, Console, Ram}
+use Rattle.step_laws.specs.Map.{Word, Pend, Run, Stop, Cons, Hsm, Start, Opaque, Console, Ram}
 use Rattle.step_laws.specs.Sections.{IsInSection}
 use Rattle.machine_model.specs.declared.reason.Reason.{Reason}
-use Rattle.machine_model.specs.Memory.{StoreEntry, write_of}
-use Rattle.machine_model.specs.Event.{Event, Starting, Start as Begin, did_of}
+use Rattle.machine_model.specs.Memory.{write_of}
+use Rattle.machine_model.specs.Event.{Event, Start as Begin}
 use Rattle.machine_model.specs.State.{Setup}
 use Rattle.step_laws.specs.Words.{console_places}
 use Rattle.run_laws.proofs.Placed.{Placed, steps, run_of}

@@ -1,11 +1,9 @@
 -- The target's part of a request: where it acks one that asks for a flush, its record has the flush, behind its load of the request.
-use Rattle.std.specs.Prelude.{◌≡◌, ℕ, ◌==◌, IsTrue, if◌then◌else◌, List, Some}
+use Rattle.std.specs.Prelude.{◌≡◌, ℕ, IsTrue, List, Some}
 use Rattle.std.specs.List.{list_any}
-use Rattle.rv64_priv.specs.Flush.{Flush, Full, Pages}
 use Rattle.step_laws.specs.declared.steps.WordOp.{WordOp}
 use Rattle.step_laws.specs.declared.steps.WordOp.TheVariants.{Store}
 use Rattle.step_laws.specs.Map.{Word, Place}
-use Rattle.step_laws.specs.Fields.{request_kind, request_count, request_page}
 use Rattle.step_laws.specs.Past.{Since, Anything}
 use Rattle.step_laws.specs.Places.{last_load}
 use Rattle.step_laws.specs.Discipline.{IsAway, IsFetch, IsDrain}

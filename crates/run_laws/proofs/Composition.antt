@@ -1,19 +1,16 @@
 -- The run that all records together give.
-use Rattle.std.specs.Prelude.{zero, suc, [], ◌∷◌, ◌+◌, ◌≡◌, ◌⊎◌, ◌<◌, ◌≤◌, ℕ, Bool, List, ◌++◌, length, Option, Some, None}
+use Rattle.std.specs.Prelude.{◌+◌, ◌≡◌, ◌<◌, ℕ, Bool, List, ◌++◌, length, Some}
 use Rattle.step_laws.specs.declared.steps.Step.{Step}
 use Rattle.step_laws.specs.Map.{Cons, Stop, Console, Hsm, name_of, number_of}
 use Rattle.step_laws.specs.Steps.{own_steps, value_at}
 use Rattle.step_laws.specs.Histories.{IsHistory}
-use Rattle.machine_model.specs.declared.reason.Reason.{Reason}
 use Rattle.machine_model.specs.Event.{Event}
 use Rattle.machine_model.specs.State.{Setup, memory, mode_of}
-use Rattle.step_laws.specs.Words.{console_places}
 use Rattle.machine_model.specs.Run.{state_of}
 use Rattle.machine_model.specs.Lawful.{IsRun, IsSettled}
 use Rattle.run_laws.specs.Ended.{stop_number, IsFilled as Full, byte_at as byte}
 use Rattle.run_laws.proofs.Placed.{Placed, steps}
 use Rattle.turn_pieces.specs.Shared.{IsShared, mode_named}
-use Rattle.machine_model.specs.ReasonWords.{reason_word}
 use Rattle.run_laws.proofs.Pieces.{IsActing, Reads, Told}
 use Rattle.run_laws.proofs.Begun.{IsLoaded}
 

@@ -1,19 +1,19 @@
 -- The end of a machine whose records of all actors were joined.
-use Rattle.std.specs.Prelude.{◌⊎◌, ◌≡◌, ◌≢◌, ◌<◌, ◌^◌, ◌+◌, ℕ, List, length, Some, slice_index, ◌++◌}
+use Rattle.std.specs.Prelude.{◌⊎◌, ◌≡◌, ◌≢◌, ℕ, List, ◌++◌}
 use mathlib.Core.Option.{some}
 use lib.ListN.{get_elem?}
 use Rattle.step_laws.specs.declared.steps.Record.{Record}
 use Rattle.step_laws.specs.declared.steps.Step.{Step}
 use Rattle.step_laws.specs.Layout.{IsInLimits}
-use Rattle.step_laws.specs.Map.{Cons, Stop, Console, Hsm, name_of, number_of}
+use Rattle.step_laws.specs.Map.{name_of}
 use Rattle.step_laws.specs.Words.{loader}
-use Rattle.step_laws.specs.Steps.{own_steps, value_at, words_of}
+use Rattle.step_laws.specs.Steps.{own_steps, value_at}
 use Rattle.step_laws.specs.Joined.{IsJoined}
 use Rattle.step_laws.specs.Loader.{IsBooted}
 use Rattle.machine_model.specs.Event.{Event}
-use Rattle.machine_model.specs.State.{Setup, memory, mode_of}
+use Rattle.machine_model.specs.State.{Setup}
 use Rattle.run_laws.proofs.Placed.{Placed, steps, run_of, mine}
-use Rattle.turn_pieces.specs.Shared.{IsShared, mode_named}
+use Rattle.turn_pieces.specs.Shared.{IsShared}
 use Rattle.run_laws.proofs.Pieces.{IsTurns, Told}
 use Rattle.run_laws.specs.Ended.{IsEnded}
 

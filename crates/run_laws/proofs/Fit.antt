@@ -8,7 +8,7 @@ use Rattle.rv64_priv.specs.declared.state.Kind.{Kind}
 use Rattle.rv64_priv.specs.Walk.{Walked}
 use Rattle.rv64_exec.specs.Code.{Code}
 use Rattle.step_laws.specs.declared.steps.Step.{Step}
-use Rattle.step_laws.specs.Words.{ipi_word}
+use Rattle.step_laws.specs.Words.{ipi_word, monitor}
 use Rattle.step_laws.specs.Map.{Start, Opaque}
 use Rattle.machine_model.specs.declared.reason.Reason.{Reason}
 use Rattle.machine_model.specs.Event.{Event, Outcome, Fetch, Exec, GiveUp, Interrupt, Flushes, Start as Begin, Stop, Await, SnapBegin, SnapEnd, Dump}
@@ -174,6 +174,9 @@ module _ (u : Setup) (a : ℕ) (l : Log) (t : Placed) (r : List Placed) (is : pl
         none_open = ap Rattle.run_laws.proofs.Kept.drawn (sym is) ∙ (same_drawn l ∙ x.none_open);
       }
 
+  began : a ≡ monitor → (P : Bool → Type 0) → P (passes is_snap_begin (last_of monitor (events_of l))) → P (passes is_snap_begin (last_of a (run_of p)))
+  began is P x = by_part (λ o run. P (passes is_snap_begin (last_of a run))) (subst (λ b. P (passes is_snap_begin (last_of b (events_of l)))) (sym is) x)
+
   pub fits : (e : Event) → IsFit u a l e (part u a l) → Fits u a t.step p e
   fits (Fetch h walk code) x = (x.0, fit_fetch walk code x.1)
   fits (Exec h walk second did) x = (x.0, fit_exec walk second did x.1)
@@ -183,6 +186,6 @@ module _ (u : Setup) (a : ℕ) (l : Log) (t : Placed) (r : List Placed) (is : pl
   fits (Begin h at opaque) x = (x.0, fit_start at opaque x.1)
   fits (Stop by reason) x = fit_stop reason x
   fits (Await count) x = (x.0, fit_await count x.1)
-  fits SnapBegin x = (x.0, by_part (λ o run. NextLine (script_of u.script run) Snapshot) x.1, by_part (λ o run. passes is_snap_begin (last_of a run) ≡ false) x.2)
-  fits (SnapEnd pages) x = (x.0, by_part (λ o run. NextLine (script_of u.script run) Snapshot) x.1, by_part (λ o run. IsTrue (passes is_snap_begin (last_of a run))) x.2)
+  fits SnapBegin x = (x.0, by_part (λ o run. NextLine (script_of u.script run) Snapshot) x.1.line, began x.0 (λ o. o ≡ false) x.1.none_begun)
+  fits (SnapEnd pages) x = (x.0, by_part (λ o run. NextLine (script_of u.script run) Snapshot) x.1.line, began x.0 IsTrue x.1.begun)
   fits (Dump at bytes) x = (x.0, by_part (λ o run. NextLine (script_of u.script run) (DumpBytes at (Rattle.std.specs.Prelude.length bytes))) x.1, λ w s. x.2 w (may_be w s))

@@ -1,21 +1,17 @@
 -- Which event may stand at a step, after the events that stand there before it: what its actor's own record shows of it.
-use Rattle.std.specs.Prelude.{◌≡◌, ◌≢◌, ◌⊎◌, ◌≤◌, ◌<◌, ℕ, zero, suc, ◌+◌, ◌-◌, ◌/◌, ◌%◌, ◌^◌, ◌==◌, Bool, true, false, IsTrue, IsSome, List, [], ◌∷◌, length, drop, Option, Some, None}
+use Rattle.std.specs.Prelude.{◌≡◌, ◌≢◌, ◌⊎◌, ◌≤◌, ◌<◌, ℕ, ◌+◌, ◌-◌, ◌^◌, ◌==◌, Bool, true, false, IsTrue, IsSome, List, [], ◌∷◌, length, drop, Option, Some, None}
 use Rattle.std.specs.List.{AllByRecursion}
-use Rattle.rv64_decode.specs.Encoding.{Decodes}
 use Rattle.rv64_priv.specs.declared.state.Kind.{Kind}
 use Rattle.rv64_priv.specs.Flush.{Flush, Full, Pages}
-use Rattle.rv64_priv.specs.Walk.{Walked, Leaf}
-use Rattle.rv64_exec.specs.Code.{Code, no_code}
+use Rattle.rv64_priv.specs.Walk.{Walked}
+use Rattle.rv64_exec.specs.Code.{Code}
 use Rattle.step_laws.specs.declared.steps.Step.{Step}
 use Rattle.step_laws.specs.declared.steps.WordOp.TheVariants.{Load, Store}
-use Rattle.step_laws.specs.Words.{ipi_word, ram_word}
-use Rattle.step_laws.specs.Map.{Word, Cons, Ipi, Hsm, Start, Opaque, Place, Ram, name_of}
+use Rattle.step_laws.specs.Words.{ipi_word}
+use Rattle.step_laws.specs.Map.{Cons, Hsm, Start, Opaque, Place, name_of}
 use Rattle.step_laws.specs.Words.{monitor}
-use Rattle.step_laws.specs.Fields.{request_kind, request_count, request_page}
 use Rattle.step_laws.specs.Sections.{IsInSection}
 use Rattle.machine_model.specs.declared.reason.Reason.{Reason}
-use Rattle.machine_model.specs.declared.mode.Mode.{Mode}
-use Rattle.machine_model.specs.declared.mode.Mode.TheVariants.{Started, Halted, Pending}
 use Rattle.machine_model.specs.Event.{Event, Outcome, Fetch, Exec, GiveUp, Interrupt, Flushes, Start as Begin, Stop, Await, SnapBegin, SnapEnd, Dump, actor_of}
 use Rattle.machine_model.specs.State.{Setup, AwaitBytes, Snapshot, DumpBytes, StopAll}
 use Rattle.machine_model.specs.Sbi.{bytes_from}

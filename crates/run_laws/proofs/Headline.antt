@@ -1,6 +1,6 @@
 -- The headline's parts, from one run.
-use Rattle.std.proofs.Common.{◌≡◌, ◌≢◌, ◌≤◌, ◌<◌, ◌+◌, ◌*◌, ◌/◌, ℕ, zero, suc, Bool, true, false, true≢false, List, [], ◌∷◌, ◌++◌, length, Some, refl, sym, ap, subst, ◌∙◌, arith, ne_eqb, eq-eqb, eqb-true, inl, inr}
-use Rattle.std.specs.Prelude.{◌⊎◌, ◌==◌, ◌&&◌, ◌||◌, nat_lt, nat_le, max, min, if◌then◌else◌, IsTrue}
+use Rattle.std.proofs.Common.{◌≡◌, ◌≢◌, ◌≤◌, ◌<◌, ◌+◌, ℕ, zero, suc, Bool, true, false, true≢false, List, [], ◌∷◌, ◌++◌, length, refl, sym, ap, subst, ◌∙◌, arith, ne_eqb, eqb-true, inl, inr}
+use Rattle.std.specs.Prelude.{◌⊎◌, ◌==◌, ◌&&◌, ◌||◌, nat_le, max, if◌then◌else◌, IsTrue}
 use Rattle.std.specs.List.{list_any, AllByRecursion}
 use Rattle.std.proofs.lemmas.Bool.{and_parts}
 use Rattle.std.proofs.lemmas.Bool.Decides.{nat_tests}
@@ -11,15 +11,14 @@ use Rattle.step_laws.specs.Words.{monitor, loader}
 use Rattle.step_laws.proofs.Named.{by_test}
 use Rattle.step_laws.proofs.Apart.{section_law}
 use Rattle.step_laws.proofs.Histories.{joined_law}
-use Rattle.step_laws.specs.declared.steps.Step.{Step}
 use Rattle.step_laws.specs.Histories.{IsHistory}
 use Rattle.machine_model.specs.Past.{Since, now, later, HasSince, this, before}
 use Rattle.machine_model.specs.Event.{Event, Exec, Flushes, SnapEnd, Dump, actor_of}
 use Rattle.machine_model.specs.Script.{ScriptResult, Pages as Took, Bytes, script_results}
 use Rattle.machine_model.specs.State.{Setup, hart, initial}
 use Rattle.machine_model.specs.Own.{Own, own, own_of, own_next}
-use Rattle.machine_model.specs.Run.{state_of, fetches, flushes, covers_leaf, renews, includes}
-use Rattle.machine_model.specs.Lawful.{Flushed, FlushesDone, IsRun, IsAllowed}
+use Rattle.machine_model.specs.Run.{fetches, flushes, covers_leaf, renews, includes}
+use Rattle.machine_model.specs.Lawful.{Flushed, FlushesDone, IsRun}
 use Rattle.machine_model.proofs.Owned.{own_is_own}
 use Rattle.turn_pieces.specs.Log.{made, did, Log, events_of}
 use Rattle.run_laws.specs.Read.{own_items}

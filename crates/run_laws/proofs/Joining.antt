@@ -15,11 +15,10 @@ use Rattle.step_laws.specs.Steps.{own_steps, value_at, new_of, words_of}
 use Rattle.step_laws.specs.Histories.{IsHistory, IsBegun as HasBegun}
 use Rattle.step_laws.proofs.Histories.{initial_runs}
 use Rattle.step_laws.specs.Joined.{is_listed, IsJoined}
-use Rattle.step_laws.specs.Loader.{IsBooted}
 use Rattle.step_laws.proofs.Named.{by_test}
 use Rattle.step_laws.proofs.Woven.{woven, history_tail, own_other, loader_op, Begins, begins_rest}
 use Rattle.step_laws.proofs.Along.{permits_loader, silent_own}
-use Rattle.step_laws.proofs.Histories.{booted, joined_law, trace_law, trace_begun, Listed, listed}
+use Rattle.step_laws.proofs.Histories.{joined_law, trace_law, trace_begun, Listed, listed}
 use Rattle.machine_model.specs.State.{Setup}
 use Rattle.turn_pieces.specs.Shared.{IsShared}
 use Rattle.step_laws.specs.Steps.{IsConsistent}

@@ -1,16 +1,14 @@
 -- What a placed record says of its actor: one fact a fold.
-use Rattle.std.specs.Prelude.{ℕ, ◌-◌, ◌^◌, ◌==◌, ◌&&◌, ◌||◌, if◌then◌else◌, Bool, true, false, List, [], ◌∷◌, ◌++◌, drop, Option, Some, None, is_some}
+use Rattle.std.specs.Prelude.{ℕ, ◌&&◌, ◌||◌, if◌then◌else◌, Bool, false, List, [], ◌∷◌, ◌++◌, Option, None, is_some}
 use Rattle.std.specs.List.{list_any}
 use Rattle.rv64_priv.specs.Flush.{Full}
-use Rattle.step_laws.specs.declared.steps.Step.{Step}
 use Rattle.step_laws.specs.declared.steps.WordOp.{WordOp}
-use Rattle.step_laws.specs.declared.steps.WordOp.TheVariants.{Load, Store, Add}
-use Rattle.step_laws.specs.Map.{Word, Pend, Live, Run, Cons, Hsm, Console, Ram, same, name_of}
-use Rattle.step_laws.specs.Harts.{Taking, idle, taking}
+use Rattle.step_laws.specs.declared.steps.WordOp.TheVariants.{Store}
+use Rattle.step_laws.specs.Map.{Word, Ram, name_of}
+use Rattle.step_laws.specs.Harts.{taking}
 use Rattle.machine_model.specs.Event.{Event, did_of}
-use Rattle.machine_model.specs.State.{Setup, Command, hart, initial}
+use Rattle.machine_model.specs.State.{Setup, hart, initial}
 use Rattle.machine_model.specs.Own.{Own, own}
-use Rattle.machine_model.specs.Change.{ends_line}
 use Rattle.machine_model.specs.Own.{own_of}
 use Rattle.machine_model.specs.Run.{flushes}
 use Rattle.run_laws.proofs.Placed.{Placed, steps, run_of, has_entry}

@@ -1,9 +1,7 @@
 -- Placed steps of all actors, as one log.
-use Rattle.std.proofs.Common.{◌≡◌, ℕ, Bool, true, false, List, [], ◌∷◌, ◌++◌, refl, sym, ap, subst, ◌∙◌}
+use Rattle.std.proofs.Common.{◌≡◌, ℕ, Bool, true, false, List, [], ◌∷◌, ◌++◌, refl, ap, ◌∙◌}
 use Rattle.std.specs.Prelude.{◌==◌, if◌then◌else◌}
-use Rattle.step_laws.specs.declared.steps.Step.{Step}
-use Rattle.step_laws.proofs.Named.{by_test}
-use Rattle.machine_model.specs.Event.{Event, actor_of}
+use Rattle.machine_model.specs.Event.{Event}
 use Rattle.machine_model.specs.State.{Setup}
 use Rattle.turn_pieces.specs.Log.{made, did, Log, steps_of, events_of}
 use Rattle.turn_pieces.specs.Grows.{Grows, stays, makes, does}

@@ -1,10 +1,9 @@
 -- What one turn shows by itself, records that are cut in turns, and the run that all records together give.
 use Rattle.std.specs.List.{list_any}
-use Rattle.std.specs.Prelude.{◌≡◌, ◌≢◌, ◌⊎◌, ℕ, ◌-◌, ◌^◌, true, false, IsTrue, List, [], ◌∷◌, ◌++◌, None}
+use Rattle.std.specs.Prelude.{◌≡◌, ◌≢◌, ◌⊎◌, ℕ, true, false, IsTrue, List, [], ◌∷◌, ◌++◌, None}
 use Rattle.step_laws.specs.declared.steps.Step.{Step}
-use Rattle.step_laws.specs.declared.steps.WordOp.{WordOp}
-use Rattle.step_laws.specs.declared.steps.WordOp.TheVariants.{Load, Add}
-use Rattle.step_laws.specs.Map.{Word, Zero, Stop, Live, name_of}
+use Rattle.step_laws.specs.declared.steps.WordOp.TheVariants.{Load}
+use Rattle.step_laws.specs.Map.{Zero, Stop, name_of}
 use Rattle.step_laws.specs.Words.{loader}
 use Rattle.step_laws.specs.Harts.{is_owing}
 use Rattle.machine_model.specs.Event.{Event}

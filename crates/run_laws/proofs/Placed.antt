@@ -1,7 +1,6 @@
 -- A record of steps with the events placed at each. Records are newest first, and so are the events at a step.
 use Rattle.std.specs.Prelude.{◌≡◌, ◌⊎◌, ℕ, ◌==◌, if◌then◌else◌, Bool, false, ◌||◌, List, [], ◌∷◌, ◌++◌, is_some}
 use Rattle.step_laws.specs.declared.steps.Step.{Step}
-use Rattle.step_laws.specs.declared.steps.WordOp.TheVariants.{Load}
 use Rattle.machine_model.specs.Event.{Event, actor_of, entry_stored}
 use Rattle.walk_laws.specs.WalkLoads.{Found, Loads}
 use Rattle.turn_pieces.specs.Log.{made, did, Log}

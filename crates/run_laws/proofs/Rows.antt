@@ -1,5 +1,5 @@
 -- The logs of two harts, merged in one: the whole list of events is written by hand, and the history of steps reads exactly it.
-use Rattle.std.proofs.Common.{◌≡◌, ◌+◌, ◌*◌, ◌^◌, ℕ, zero, suc, Bool, true, false, List, [], ◌∷◌, ◌++◌, Some, refl, pos}
+use Rattle.std.proofs.Common.{◌≡◌, ◌+◌, ◌*◌, ◌^◌, Bool, true, false, List, [], ◌∷◌, ◌++◌, refl, pos}
 use Rattle.std.specs.Prelude.{◌==◌, ◌&&◌}
 use Rattle.rv64_decode.specs.declared.instruction.Instr.TheVariants.{Lui, Auipc, Addi, Sd, Ecall, Amoadd}
 use Rattle.rv64_decode.specs.Encoding.{encoding_of}
@@ -13,7 +13,6 @@ use Rattle.step_laws.specs.Words.{first_ram_word, loader}
 use Rattle.step_laws.specs.Map.{Hsm, number_of}
 use Rattle.step_laws.specs.Steps.{value_at, answer_of}
 use Rattle.step_laws.specs.Discipline.{minus_one}
-use Rattle.machine_model.specs.declared.mode.Mode.TheVariants.{Started, Halted}
 use Rattle.machine_model.specs.Event.{Event, Flushes, Start as Begin}
 use Rattle.machine_model.specs.State.{memory, mode_of}
 use Rattle.machine_model.specs.Change.{executed as executing}

@@ -1,24 +1,18 @@
 -- The law of one run.
-use Rattle.std.proofs.Common.{◌≡◌, ◌≢◌, ◌⊎◌, ◌<◌, ◌≤◌, ℕ, zero, suc, Bool, true, false, List, [], ◌∷◌, ◌++◌, refl, sym, ap, subst, ◌∙◌, inl, inr, arith, ⊎_elim}
+use Rattle.std.proofs.Common.{◌≡◌, ◌≢◌, ◌⊎◌, ◌<◌, ◌≤◌, ℕ, Bool, true, false, List, [], ◌∷◌, ◌++◌, refl, sym, ap, subst, ◌∙◌, inl, inr, arith, ⊎_elim}
 use Rattle.std.specs.Prelude.{◌==◌, ◌&&◌, ◌||◌, nat_lt, nat_le, if◌then◌else◌}
 use Rattle.std.proofs.lemmas.Bool.{lt-ltb, ltb-true}
-use mathlib.Core.Option.{some}
-use lib.ListN.{get_elem?}
 use Rattle.step_laws.specs.declared.words.Layout.{Layout}
-use Rattle.step_laws.specs.declared.map.TlbField.{TlbField}
-use Rattle.step_laws.specs.declared.steps.Record.{Record}
 use Rattle.step_laws.specs.declared.steps.Step.{Step}
-use Rattle.step_laws.specs.declared.steps.WordOp.{WordOp}
 use Rattle.step_laws.specs.declared.steps.WordOp.TheVariants.{Load, Store}
 use Rattle.step_laws.specs.Words.{loader, most_harts, main_slots, all_slots}
 use Rattle.step_laws.specs.Map.{Word, Live, Hsm, Size, Tlb, Ram, Ipi, Zero, name_of, number_of, same, IsWord}
 use Rattle.step_laws.specs.Steps.{own_steps, value_at, new_of}
 use Rattle.step_laws.specs.Layout.{IsInLimits}
-use Rattle.step_laws.specs.Tables.{is_first_slot, is_victim, is_compare, boot_entry}
+use Rattle.step_laws.specs.Tables.{is_first_slot, is_victim, boot_entry}
 use Rattle.step_laws.specs.Loader.{is_stored, is_stored_next, IsBooted}
 use Rattle.step_laws.specs.Discipline.{IsDisciplined}
 use Rattle.step_laws.specs.Histories.{IsHistory}
-use Rattle.step_laws.specs.Joined.{IsJoined}
 use Rattle.step_laws.proofs.Named.{by_test, by_lt, same_refl, name_number}
 use Rattle.step_laws.proofs.Woven.{loader_op}
 use Rattle.step_laws.proofs.Along.{permits_loader}
@@ -27,14 +21,13 @@ use Rattle.machine_model.specs.Memory.{Memory}
 use Rattle.machine_model.specs.Event.{Event}
 use Rattle.machine_model.specs.State.{Setup}
 use Rattle.turn_pieces.specs.Shared.{IsShared}
-use Rattle.turn_pieces.specs.Log.{Log}
 use Rattle.turn_pieces.proofs.Chains.{chain_grows}
 use Rattle.run_laws.specs.Boot.{image_word, first_word, IsBoot}
 use Rattle.run_laws.specs.Ended.{IsEnded}
-use Rattle.run_laws.specs.Read.{own_items, IsTurned as LogTurned, IsRead as LogRead}
-use Rattle.run_laws.specs.RunLaws.{AreTurned, RunLaw}
-use Rattle.run_laws.proofs.Placed.{Placed, placed_of, mine}
-use Rattle.run_laws.proofs.Ended.{IsTurned, IsRead}
+use Rattle.run_laws.specs.Read.{IsRead as LogRead}
+use Rattle.run_laws.specs.RunLaws.{RunLaw}
+use Rattle.run_laws.proofs.Placed.{placed_of}
+use Rattle.run_laws.proofs.Ended.{IsRead}
 use Rattle.run_laws.proofs.Same.{same_steps}
 use Rattle.run_laws.proofs.Turns.{chain_of}
 use Rattle.run_laws.proofs.Merged.{log_of, log_steps, log_events, log_again, own_log}

@@ -1,18 +1,14 @@
 -- A walk that a record shows.
-use Rattle.std.specs.Prelude.{◌≡◌, ℕ, zero, suc, ◌*◌, ◌%◌, ◌^◌, ◌||◌, if◌then◌else◌, IsTrue, List, [], ◌∷◌, Option, Some, None}
+use Rattle.std.specs.Prelude.{◌≡◌, ℕ, IsTrue, List, [], ◌∷◌, Option, Some, None}
 use Rattle.rv64_priv.specs.State.{Arch}
 use Rattle.rv64_priv.specs.Csr.{regime}
 use Rattle.rv64_priv.specs.declared.state.Kind.{Kind}
-use Rattle.rv64_priv.specs.declared.state.Regime.{Regime}
-use Rattle.rv64_priv.specs.Pte.{is_bare, is_malformed, is_leaf, ppn}
-use Rattle.rv64_priv.specs.Walk.{Walked, walk_of, is_ram, is_canonical, pte_address}
-use Rattle.step_laws.specs.Words.{ram_word}
+use Rattle.rv64_priv.specs.Walk.{Walked, walk_of}
 use Rattle.machine_model.specs.Run.{renews}
 use Rattle.rv64_priv.specs.Reads.{answering}
 use Rattle.machine_model.specs.Access.{crosses_page, second_va, spot_of, is_at_ram}
 use Rattle.machine_model.specs.Walks.{Wanted}
 use Rattle.run_laws.proofs.Placed.{Placed, Stood}
-use Rattle.walk_laws.specs.WalkLoads.{Found, found}
 use Rattle.walk_laws.specs.WalkLoads.{reads_of}
 
 -- the walk's loads stand in the record, with nothing since the first of them that renews the walk: for a leaf a flush that

@@ -1,5 +1,5 @@
 -- The words of a machine at its end, and the run of the reference machine that they are of.
-use Rattle.std.specs.Prelude.{◌≡◌, ◌⊎◌, ◌<◌, ◌≤◌, ◌+◌, ◌^◌, ℕ, zero, suc, List, [], ◌∷◌, length, Option, Some, None, slice_index}
+use Rattle.std.specs.Prelude.{◌≡◌, ◌⊎◌, ◌<◌, ◌≤◌, ◌+◌, ℕ, zero, suc, List, [], ◌∷◌, length, Option, Some, None, slice_index}
 use Rattle.step_laws.specs.Words.{console_places}
 use Rattle.step_laws.specs.Map.{Cons, Stop, Console, Hsm, name_of, number_of}
 use Rattle.step_laws.specs.Steps.{words_of}

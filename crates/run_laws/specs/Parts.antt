@@ -9,7 +9,7 @@ use Rattle.rv64_priv.specs.Walk.{Walked, Leaf}
 use Rattle.step_laws.specs.declared.words.Layout.{Layout}
 use Rattle.step_laws.specs.declared.steps.Record.{Record}
 use Rattle.step_laws.specs.declared.steps.Step.{Step}
-use Rattle.step_laws.specs.Words.{monitor, loader}
+use Rattle.step_laws.specs.Words.{monitor}
 use Rattle.step_laws.specs.Map.{name_of}
 use Rattle.step_laws.specs.Steps.{own_steps}
 use Rattle.step_laws.specs.Past.{Each}

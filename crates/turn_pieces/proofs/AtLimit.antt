@@ -1,8 +1,8 @@
 -- A hart that ends the machine at its limit, while another adds: the log of each is written by hand, and is a chain of turns.
-use Rattle.std.proofs.Common.{◌≡◌, ◌≢◌, ◌<◌, ◌+◌, ◌-◌, ◌*◌, ◌/◌, ◌%◌, ◌^◌, ◌≤◌, ℕ, zero, suc, Bool, true, false, true≢false, List, [], ◌∷◌, Option, Some, None, refl, sym, ap, subst, ◌∙◌, inl, inr, arith, pos, eq-eqb}
-use Rattle.std.specs.Prelude.{◌==◌, if◌then◌else◌}
+use Rattle.std.proofs.Common.{◌≡◌, ◌+◌, ◌*◌, ◌^◌, ℕ, true, false, true≢false, [], ◌∷◌, Some, refl, sym, ap, subst, ◌∙◌, inl, inr, arith, pos, eq-eqb}
+use Rattle.std.specs.Prelude.{◌==◌}
 use Rattle.rv64_decode.specs.declared.instruction.Instr.{Instr}
-use Rattle.rv64_decode.specs.declared.instruction.Instr.TheVariants.{Lui, Auipc, Addi, Sd, Ecall, Amoadd}
+use Rattle.rv64_decode.specs.declared.instruction.Instr.TheVariants.{Lui, Auipc, Addi, Ecall, Amoadd}
 use Rattle.rv64_decode.specs.Encoding.{encoding_of}
 use Rattle.rv64_priv.specs.Flush.{Full}
 use Rattle.rv64_priv.specs.Walk.{Walked, walk_of}
@@ -12,13 +12,12 @@ use Rattle.rv64_exec.specs.Finish.{done}
 use Rattle.step_laws.specs.declared.steps.WordOp.TheVariants.{Load, Store, Add, Exchange}
 use Rattle.step_laws.specs.Words.{first_ram_word}
 use Rattle.step_laws.specs.Map.{name_of}
-use Rattle.step_laws.specs.Discipline.{minus_one}
 use Rattle.machine_model.specs.declared.reason.Reason.{Reason}
-use Rattle.machine_model.specs.Event.{Event, Outcome, Fetch, Exec, Flushes, Start as Begin, Stop, only}
+use Rattle.machine_model.specs.Event.{Event, Fetch, Exec, Flushes, Start as Begin, Stop, only}
 use Rattle.machine_model.specs.Memory.{write_of}
 use Rattle.machine_model.specs.State.{Setup}
 use Rattle.machine_model.specs.Own.{own_executed}
-use Rattle.machine_model.specs.Perform.{Surroundings, perform}
+use Rattle.machine_model.specs.Perform.{perform}
 use Rattle.machine_model.specs.Sbi.{sbi_of}
 use Rattle.machine_model.specs.Walks.{need_held}
 use Rattle.machine_model.specs.Lawful.{flushing}
@@ -27,7 +26,7 @@ use Rattle.turn_pieces.specs.Log.{made, did, Log}
 use Rattle.turn_pieces.specs.Kept.{part}
 use Rattle.turn_pieces.specs.Doing.{IsQuiet}
 use Rattle.turn_pieces.specs.Right.{AreFenced}
-use Rattle.turn_pieces.specs.Grows.{Grows, stays, makes, does, IsClosed, IsTurn, AreTurns, none, turn, IsChain, whole}
+use Rattle.turn_pieces.specs.Grows.{Grows, stays, makes, does, IsClosed, none, turn, IsChain, whole}
 use Rattle.turn_pieces.proofs.Writers.{grows_then}
 use Rattle.turn_pieces.proofs.Unmarked.{unmarked}
 use Rattle.turn_pieces.proofs.Rows.{step, code}
@@ -427,6 +426,7 @@ start_turn_closed = record {
   left = refl;
   full = λ e. absurd (cc (e));
   marks = λ page. unmarked two_harts 0 page start_turn refl;
+  snapshot = λ e. absurd (omega (arith, e));
 }
 
 limit_turn_closed : IsClosed two_harts 0 limit_turn
@@ -440,6 +440,7 @@ limit_turn_closed = record {
   left = refl;
   full = λ e. absurd (cc (e));
   marks = λ page. unmarked two_harts 0 page limit_turn refl;
+  snapshot = λ e. absurd (omega (arith, e));
 }
 
 -- 2 turns
@@ -617,6 +618,7 @@ begin_turn_closed = record {
   left = refl;
   full = λ e. absurd (cc (e));
   marks = λ page. unmarked two_harts 1 page begin_turn refl;
+  snapshot = λ e. absurd (omega (arith, e));
 }
 
 second_turn_closed : IsClosed two_harts 1 second_turn
@@ -630,6 +632,7 @@ second_turn_closed = record {
   left = refl;
   full = λ e. absurd (cc (e));
   marks = λ page. unmarked two_harts 1 page second_turn refl;
+  snapshot = λ e. absurd (omega (arith, e));
 }
 
 -- 2 turns

@@ -1,15 +1,13 @@
 -- Chains of turns grow by right.
-use Rattle.std.proofs.Common.{◌≡◌, ◌≢◌, ℕ, suc, List, [], ◌∷◌, Option, refl, sym, ap, subst, ◌∙◌}
+use Rattle.std.proofs.Common.{◌≢◌, ℕ, [], ◌∷◌}
 use Rattle.step_laws.specs.declared.steps.Step.{Step}
-use Rattle.step_laws.specs.declared.steps.WordOp.{WordOp}
 use Rattle.step_laws.specs.declared.steps.WordOp.TheVariants.{Load}
-use Rattle.step_laws.specs.Map.{Word, Stop, name_of}
+use Rattle.step_laws.specs.Map.{Stop}
 use Rattle.machine_model.specs.State.{Setup}
-use Rattle.turn_pieces.specs.Folds.{Unstored}
-use Rattle.turn_pieces.specs.Draws.{filled, beyond, within}
-use Rattle.turn_pieces.specs.Log.{made, did, Log, steps_of}
-use Rattle.turn_pieces.specs.Owed.{Owed, nothing, paid, owes, owed, unstored, books, May, MayBehind, MayMake}
-use Rattle.turn_pieces.specs.Grows.{Grows, stays, makes, does, IsClear, LooksAtStop, IsTurn, AreTurns, none, turn, rests, IsChain, whole, looks}
+use Rattle.turn_pieces.specs.Draws.{filled, beyond}
+use Rattle.turn_pieces.specs.Log.{made, Log, steps_of}
+use Rattle.turn_pieces.specs.Owed.{owed, books, MayMake}
+use Rattle.turn_pieces.specs.Grows.{Grows, stays, makes, IsClear, LooksAtStop, AreTurns, none, turn, rests, IsChain, whole, looks}
 use Rattle.turn_pieces.proofs.Writers.{grows_then, may_named, may_clear}
 
 -- a turn begins where nothing is owed

@@ -6,7 +6,8 @@ pub mod Accesses
 pub mod Chains
 pub mod Unmarked
 pub mod Rows
-mod Wrong
+pub mod Wrong
 pub mod TwoHarts
 pub mod AtLimit
 mod Stale
+mod Moved

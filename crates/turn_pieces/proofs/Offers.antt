@@ -19,7 +19,7 @@ use Rattle.turn_pieces.specs.Draws.{may_draw, Drawing}
 use Rattle.machine_model.specs.ReasonWords.{reason_word}
 use Rattle.turn_pieces.specs.Log.{made, did, Log, steps_of, events_of}
 use Rattle.turn_pieces.specs.Kept.{part, places, bytes}
-use Rattle.turn_pieces.specs.Owed.{Owed, nothing, paid, writes, stores, joins, draws, fills, gives, takes, begun, left, owes, owes_store, owes_own, owed, unstored, books, May, MayMake, MayBehind, Rests, Pays, PaysFor, HasPaid, PrintsOne, PrintsAll, Ends as GivesReason, Starts}
+use Rattle.turn_pieces.specs.Owed.{Owed, nothing, paid, writes, stores, joins, draws, fills, gives, takes, begun, left, owes_store, owes_own, owed, unstored, books, May, MayMake, MayBehind, Rests, Pays, PaysFor, HasPaid}
 use Rattle.turn_pieces.specs.Right.{IsFit}
 use Rattle.turn_pieces.specs.Grows.{Grows, stays, makes, does, IsClear}
 use Rattle.turn_pieces.proofs.Writers.{may_named, owed_named, may_clear}

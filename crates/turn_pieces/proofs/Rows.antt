@@ -1,6 +1,6 @@
 -- A hart that prints a byte in one turn of three instructions: a whole log written by hand is a chain of one turn.
-use Rattle.std.proofs.Common.{◌≡◌, ◌≢◌, ◌<◌, ◌+◌, ◌-◌, ◌*◌, ◌/◌, ◌%◌, ◌^◌, ◌≤◌, ℕ, zero, suc, Bool, true, false, true≢false, List, [], ◌∷◌, Option, Some, None, refl, sym, ap, subst, ◌∙◌, inl, inr, arith, pos}
-use Rattle.std.specs.Prelude.{IsTrue, nat_le, take, if◌then◌else◌}
+use Rattle.std.proofs.Common.{◌≡◌, ◌+◌, ◌*◌, ◌^◌, ℕ, Bool, true, true≢false, [], ◌∷◌, Some, refl, sym, ap, inl, inr, arith, pos}
+use Rattle.std.specs.Prelude.{nat_le, take, if◌then◌else◌}
 use Rattle.rv64_decode.specs.declared.instruction.Instr.{Instr}
 use Rattle.rv64_decode.specs.declared.instruction.Instr.TheVariants.{Lui, Addi, Sb}
 use Rattle.rv64_decode.specs.Encoding.{encoding_of}
@@ -15,7 +15,7 @@ use Rattle.step_laws.specs.declared.steps.WordOp.TheVariants.{Load, Store, Add}
 use Rattle.step_laws.specs.Words.{first_ram_word, first_console_word, console_places}
 use Rattle.step_laws.specs.Map.{name_of}
 use Rattle.machine_model.specs.declared.reason.Reason.{Reason}
-use Rattle.machine_model.specs.Event.{Event, Outcome, Fetch, Exec, only}
+use Rattle.machine_model.specs.Event.{Event, Fetch, Exec, only}
 use Rattle.machine_model.specs.State.{Setup}
 use Rattle.machine_model.specs.Own.{own_executed}
 use Rattle.machine_model.specs.Perform.{Surroundings, perform}
@@ -25,7 +25,7 @@ use Rattle.walk_laws.specs.WalkLoads.{reads_of}
 use Rattle.turn_pieces.specs.Log.{made, did, Log}
 use Rattle.turn_pieces.specs.Doing.{IsQuiet}
 use Rattle.turn_pieces.proofs.Writers.{grows_then}
-use Rattle.turn_pieces.specs.Grows.{Grows, stays, makes, does, IsClosed, IsTurn, AreTurns, none, turn, IsChain, whole}
+use Rattle.turn_pieces.specs.Grows.{Grows, stays, makes, does, IsClosed, none, turn, IsChain, whole}
 
 abbrev pub step : (actor word : ℕ) → WordOp → (arg answer : ℕ) → Step
 step actor word op arg answer = record { actor = actor; word = word; op = op; arg = arg; answer = answer }
@@ -187,6 +187,7 @@ hello_closed = record {
   left = refl;
   full = λ e. absurd (cc (e));
   marks = λ page. refl;
+  snapshot = λ e. absurd (omega (arith, e));
 }
 
 pub hello_chain : IsChain u 0 1 hello

@@ -1,6 +1,6 @@
 -- A stale translation until its fence: a hart sets up a page table of one leaf, goes on by the walk that it made, though the entry is
 -- gone from memory since, and finds it gone behind its fence. Its log is written by hand, and is a chain of two turns.
-use Rattle.std.proofs.Common.{◌≡◌, ◌≢◌, ◌<◌, ◌+◌, ◌-◌, ◌*◌, ◌/◌, ◌%◌, ◌^◌, ◌≤◌, ℕ, zero, suc, Bool, true, false, true≢false, List, [], ◌∷◌, Option, Some, None, refl, sym, inl, inr, arith, pos}
+use Rattle.std.proofs.Common.{◌+◌, ◌*◌, ◌^◌, true≢false, [], ◌∷◌, refl, sym, inl, inr, arith, pos}
 use Rattle.rv64_decode.specs.declared.instruction.Instr.TheVariants.{Lui, Addi, Slli, Or, Csrrw, Sfencevma}
 use Rattle.rv64_decode.specs.Encoding.{encoding_of}
 use Rattle.rv64_priv.specs.Flush.{Full}
@@ -22,7 +22,7 @@ use Rattle.machine_model.specs.Lawful.{flushing}
 use Rattle.walk_laws.specs.WalkLoads.{reads_of}
 use Rattle.turn_pieces.specs.Log.{made, did, Log}
 use Rattle.turn_pieces.specs.Doing.{IsQuiet}
-use Rattle.turn_pieces.specs.Grows.{Grows, stays, makes, does, IsClosed, AreTurns, none, turn, IsChain, whole}
+use Rattle.turn_pieces.specs.Grows.{Grows, stays, makes, does, IsClosed, none, turn, IsChain, whole}
 use Rattle.turn_pieces.proofs.Writers.{grows_then}
 use Rattle.turn_pieces.proofs.Unmarked.{unmarked}
 use Rattle.turn_pieces.proofs.Rows.{step, code}
@@ -377,6 +377,7 @@ first_turn_closed = record {
   left = refl;
   full = λ e. absurd (cc (e));
   marks = λ page. unmarked paged 0 page first_turn refl;
+  snapshot = λ e. absurd (omega (arith, e));
 }
 
 second_turn_closed : IsClosed paged 0 second_turn
@@ -390,6 +391,7 @@ second_turn_closed = record {
   left = refl;
   full = λ e. absurd (cc (e));
   marks = λ page. unmarked paged 0 page second_turn refl;
+  snapshot = λ e. absurd (omega (arith, e));
 }
 
 pub stale_chain : IsChain paged 0 2 second_turn

@@ -1,6 +1,6 @@
 -- Two harts: one starts the other, both add to one word, the first then stores over two words in a section, and stops itself. The log of each
 -- is written by hand, and is a chain of turns.
-use Rattle.std.proofs.Common.{◌≡◌, ◌≢◌, ◌<◌, ◌+◌, ◌-◌, ◌*◌, ◌/◌, ◌%◌, ◌^◌, ◌≤◌, ℕ, zero, suc, Bool, true, false, true≢false, List, [], ◌∷◌, Option, Some, None, refl, sym, ap, subst, ◌∙◌, inl, inr, arith, pos, eq-eqb}
+use Rattle.std.proofs.Common.{◌≡◌, ◌+◌, ◌*◌, ◌^◌, ℕ, true, false, true≢false, [], ◌∷◌, Some, refl, sym, ap, subst, ◌∙◌, inl, inr, arith, pos, eq-eqb}
 use Rattle.std.specs.Prelude.{◌==◌, if◌then◌else◌}
 use Rattle.rv64_decode.specs.declared.instruction.Instr.{Instr}
 use Rattle.rv64_decode.specs.declared.instruction.Instr.TheVariants.{Lui, Auipc, Addi, Sd, Ecall, Amoadd}
@@ -14,12 +14,11 @@ use Rattle.step_laws.specs.declared.steps.WordOp.TheVariants.{Load, Store, Add, 
 use Rattle.step_laws.specs.Words.{first_ram_word}
 use Rattle.step_laws.specs.Map.{name_of}
 use Rattle.step_laws.specs.Discipline.{minus_one}
-use Rattle.machine_model.specs.declared.reason.Reason.{Reason}
-use Rattle.machine_model.specs.Event.{Event, Outcome, Fetch, Exec, Flushes, Start as Begin, Stop, only}
+use Rattle.machine_model.specs.Event.{Event, Fetch, Exec, Flushes, Start as Begin, only}
 use Rattle.machine_model.specs.Memory.{write_of}
 use Rattle.machine_model.specs.State.{Setup}
 use Rattle.machine_model.specs.Own.{own_executed}
-use Rattle.machine_model.specs.Perform.{Surroundings, perform}
+use Rattle.machine_model.specs.Perform.{perform}
 use Rattle.machine_model.specs.Sbi.{sbi_of}
 use Rattle.machine_model.specs.Walks.{need_held}
 use Rattle.machine_model.specs.Lawful.{flushing}
@@ -28,7 +27,7 @@ use Rattle.turn_pieces.specs.Log.{made, did, Log}
 use Rattle.turn_pieces.specs.Kept.{part}
 use Rattle.turn_pieces.specs.Doing.{IsQuiet}
 use Rattle.turn_pieces.specs.Right.{AreFenced}
-use Rattle.turn_pieces.specs.Grows.{Grows, stays, makes, does, IsClosed, IsTurn, AreTurns, none, turn, IsChain, whole}
+use Rattle.turn_pieces.specs.Grows.{Grows, stays, makes, does, IsClosed, none, turn, IsChain, whole}
 use Rattle.turn_pieces.proofs.Writers.{grows_then}
 use Rattle.turn_pieces.proofs.Unmarked.{unmarked}
 use Rattle.turn_pieces.proofs.Rows.{step, code}
@@ -559,6 +558,7 @@ start_turn_closed = record {
   left = refl;
   full = λ e. absurd (cc (e));
   marks = λ page. unmarked two_harts 0 page start_turn refl;
+  snapshot = λ e. absurd (omega (arith, e));
 }
 
 add_turn_closed : IsClosed two_harts 0 add_turn
@@ -572,6 +572,7 @@ add_turn_closed = record {
   left = refl;
   full = λ e. absurd (cc (e));
   marks = λ page. unmarked two_harts 0 page add_turn refl;
+  snapshot = λ e. absurd (omega (arith, e));
 }
 
 cross_turn_closed : IsClosed two_harts 0 cross_turn
@@ -585,6 +586,7 @@ cross_turn_closed = record {
   left = refl;
   full = λ e. absurd (cc (e));
   marks = λ page. unmarked two_harts 0 page cross_turn refl;
+  snapshot = λ e. absurd (omega (arith, e));
 }
 
 stop_turn_closed : IsClosed two_harts 0 stop_turn
@@ -598,6 +600,7 @@ stop_turn_closed = record {
   left = refl;
   full = λ e. absurd (cc (e));
   marks = λ page. unmarked two_harts 0 page stop_turn refl;
+  snapshot = λ e. absurd (omega (arith, e));
 }
 
 -- 4 turns
@@ -775,6 +778,7 @@ begin_turn_closed = record {
   left = refl;
   full = λ e. absurd (cc (e));
   marks = λ page. unmarked two_harts 1 page begin_turn refl;
+  snapshot = λ e. absurd (omega (arith, e));
 }
 
 second_turn_closed : IsClosed two_harts 1 second_turn
@@ -788,6 +792,7 @@ second_turn_closed = record {
   left = refl;
   full = λ e. absurd (cc (e));
   marks = λ page. unmarked two_harts 1 page second_turn refl;
+  snapshot = λ e. absurd (omega (arith, e));
 }
 
 -- 2 turns

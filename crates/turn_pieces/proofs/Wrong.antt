@@ -1,8 +1,8 @@
 -- What a piece asks bites: each row here differs in one thing from a log that is right, and is refuted.
-use Rattle.std.proofs.Common.{◌≡◌, ◌≢◌, ◌<◌, ◌+◌, ◌-◌, ◌*◌, ◌^◌, ℕ, zero, suc, Bool, true, false, true≢false, List, [], ◌∷◌, Option, Some, None, refl, sym, ap, subst, ◌∙◌, inl, inr, arith, pos, eq-eqb}
+use Rattle.std.proofs.Common.{◌≡◌, ◌+◌, ◌-◌, ℕ, false, true≢false, List, [], ◌∷◌, Option, Some, None, refl, sym, ap, subst, ◌∙◌, inl, inr, arith, pos, eq-eqb}
 use Rattle.std.specs.Prelude.{◌==◌, ◌⊎◌}
 use Rattle.turn_pieces.specs.Folds.{Unstored}
-use Rattle.rv64_decode.specs.declared.instruction.Instr.TheVariants.{Lui, Addi, Sb}
+use Rattle.rv64_decode.specs.declared.instruction.Instr.TheVariants.{Lui, Sb}
 use Rattle.rv64_decode.specs.Encoding.{encoding_of}
 use Rattle.rv64_priv.specs.Flush.{Full}
 use Rattle.rv64_priv.specs.Walk.{Walked, walk_of}
@@ -25,10 +25,10 @@ use Rattle.turn_pieces.specs.Log.{made, did, Log, HasStood}
 use Rattle.turn_pieces.specs.Owed.{IsPromised, IsNext, MayMake, books}
 use Rattle.turn_pieces.specs.Right.{IsRight, MayBe}
 use Rattle.turn_pieces.specs.Grows.{IsClosed}
-use Rattle.turn_pieces.proofs.Rows.{step, code, u, load_stop, load_ipi, set_run, first_code, second_code, fetched, executed, inside, one, two}
+use Rattle.turn_pieces.proofs.Rows.{step, code, u, load_stop, load_ipi, set_run, first_code, second_code, fetched, inside, one, two}
 
 -- two numbers that differ
-apart : (m n : ℕ) → (m == n) ≡ false → m ≡ n → ⊥
+pub apart : (m n : ℕ) → (m == n) ≡ false → m ≡ n → ⊥
 apart m n e k = true≢false (sym (eq-eqb m n k) ∙ e)
 
 or_zero : Option ℕ → ℕ
@@ -64,7 +64,7 @@ no_look_at_ipi k = none_there k.fit.1.ipi k.fit.1.loaded
     none_there ipi (inr (inr (inr (inr x)))) = x
 
 -- an outcome of another value: another byte
-abbrev drew : Log
+abbrev pub drew : Log
 drew = made (step 0 4 Add 1 0) ∷ did (fetched (Sb 5 6 (pos 0))) ∷ made second_code ∷ made load_ipi ∷ two
 
 abbrev machine : Surroundings

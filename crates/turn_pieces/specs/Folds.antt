@@ -1,5 +1,5 @@
 -- How a step moves on what a record says of its actor: the facts of which logs are folds.
-use Rattle.std.specs.Prelude.{◌≡◌, ℕ, ◌-◌, ◌^◌, ◌==◌, ◌&&◌, ◌||◌, if◌then◌else◌, Bool, true, false, List, [], ◌∷◌, ◌++◌, drop, Option, Some, None}
+use Rattle.std.specs.Prelude.{◌≡◌, ℕ, ◌-◌, ◌==◌, ◌&&◌, ◌||◌, if◌then◌else◌, Bool, true, false, List, [], ◌∷◌, ◌++◌, drop, Option, Some, None}
 use Rattle.step_laws.specs.declared.steps.Step.{Step}
 use Rattle.step_laws.specs.declared.steps.WordOp.{WordOp}
 use Rattle.step_laws.specs.declared.steps.WordOp.TheVariants.{Load, Store, Add}

@@ -6,7 +6,7 @@ use Rattle.step_laws.specs.Map.{Stop, name_of}
 use Rattle.step_laws.specs.Harts.{is_owing}
 use Rattle.machine_model.specs.Event.{Event}
 use Rattle.machine_model.specs.State.{Setup}
-use Rattle.machine_model.specs.Run.{is_due}
+use Rattle.machine_model.specs.Run.{is_due, last_of, passes, is_snap_begin}
 use Rattle.turn_pieces.specs.Folds.{was_last}
 use Rattle.turn_pieces.specs.Log.{made, did, Log, steps_of, events_of}
 use Rattle.turn_pieces.specs.Kept.{part, places, HasSaid}
@@ -14,6 +14,7 @@ use Rattle.turn_pieces.specs.Owed.{Owed, nothing, paid, owed, unstored, MayMake}
 use Rattle.turn_pieces.specs.Right.{IsRight}
 use Rattle.turn_pieces.specs.Draws.{filled, beyond}
 use Rattle.turn_pieces.specs.Marks.{is_awaited}
+use Rattle.turn_pieces.specs.Snapshots.{is_going}
 use Rattle.step_laws.specs.Words.{monitor}
 use Rattle.step_laws.specs.Output.{is_finished}
 
@@ -51,6 +52,8 @@ pub record IsClosed (u : Setup) (a : ℕ) (l : Log) : Type 0 where
   pub full : filled (steps_of l) ≢ beyond
   -- each page that it marked was given by a store walk of an event behind the mark
   pub marks : (page : ℕ) → is_awaited u a page l ≡ false
+  -- and a snapshot is going on where the monitor's last event has begun one
+  pub snapshot : a ≡ monitor → is_going u.layout (steps_of l) ≡ passes is_snap_begin (last_of monitor (events_of l))
 
 -- the step is a load of STOP
 abbrev pub LooksAtStop : Step → Type 0

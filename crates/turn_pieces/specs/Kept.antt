@@ -1,7 +1,6 @@
 -- What a log says of its actor: one fact a fold.
-use Rattle.std.specs.Prelude.{◌≡◌, ◌⊎◌, ℕ, ◌+◌, ◌<◌, ◌≤◌, ◌==◌, ◌&&◌, ◌||◌, if◌then◌else◌, IsTrue, Bool, false, List, [], ◌∷◌, Option, Some, None, is_some}
+use Rattle.std.specs.Prelude.{◌⊎◌, ℕ, ◌==◌, ◌&&◌, ◌||◌, if◌then◌else◌, IsTrue, Bool, false, List, [], ◌∷◌, Option, None, is_some}
 use Rattle.rv64_priv.specs.Flush.{Full}
-use Rattle.step_laws.specs.declared.steps.Step.{Step}
 use Rattle.step_laws.specs.declared.steps.WordOp.{WordOp}
 use Rattle.step_laws.specs.declared.steps.WordOp.TheVariants.{Store}
 use Rattle.step_laws.specs.Map.{Word, Hsm, name_of}

@@ -6,6 +6,7 @@ pub mod Log
 pub mod Kept
 pub mod Requests
 pub mod Marks
+pub mod Snapshots
 pub mod Owed
 pub mod Right
 pub mod Grows

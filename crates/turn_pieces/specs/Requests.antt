@@ -1,5 +1,5 @@
 -- Requests, as a log tells them: of the source, what it asked for since its last fetch, and of the target, that it flushed what it acks.
-use Rattle.std.specs.Prelude.{◌≡◌, ◌⊎◌, ◌≤◌, ◌<◌, ℕ, ◌+◌, ◌==◌, IsTrue, if◌then◌else◌, false, List, [], ◌∷◌, Option, Some, None}
+use Rattle.std.specs.Prelude.{◌≡◌, ◌⊎◌, ◌≤◌, ◌<◌, ℕ, ◌+◌, ◌==◌, IsTrue, if◌then◌else◌, false, [], ◌∷◌, Option, Some, None}
 use Rattle.rv64_priv.specs.Flush.{Flush, Full, Pages}
 use Rattle.step_laws.specs.declared.steps.Step.{Step}
 use Rattle.step_laws.specs.declared.steps.WordOp.{WordOp}

@@ -34,6 +34,7 @@ use Rattle.turn_pieces.specs.Shared.{IsShared, mode_named}
 use Rattle.turn_pieces.specs.Log.{Log, steps_of, events_of, before, AtLast, HasStood}
 use Rattle.turn_pieces.specs.Kept.{part, held, places, handed, flushed}
 use Rattle.turn_pieces.specs.Requests.{HasAsked}
+use Rattle.turn_pieces.specs.Snapshots.{TakesFirst, IsReply, is_going, pages_taken}
 use Rattle.turn_pieces.specs.Owed.{HasPaid}
 
 -- the walk's loads stand in the log, with nothing since the first of them that renews the walk
@@ -142,6 +143,20 @@ pub record IsAwait (u : Setup) (l : Log) (count : ℕ) : Type 0 where
   pub room : count ≤ console_places
   pub none_open : places l ≡ []
 
+-- at its first swap
+pub record IsSnapBegin (u : Setup) (l : Log) : Type 0 where
+  pub line : NextLine (script_of u.script (events_of l)) Snapshot
+  pub none_begun : passes is_snap_begin (last_of monitor (events_of l)) ≡ false
+  pub takes : AtLast TakesFirst l
+
+-- at the last reply, with the pages that its swaps took
+pub record IsSnapEnd (u : Setup) (l : Log) (pages : List ℕ) : Type 0 where
+  pub line : NextLine (script_of u.script (events_of l)) Snapshot
+  pub begun : IsTrue (passes is_snap_begin (last_of monitor (events_of l)))
+  pub replied : AtLast IsReply l
+  pub finished : is_going u.layout (steps_of l) ≡ false
+  pub pages_are : pages ≡ pages_taken u.layout.pages (steps_of l)
+
 abbrev pub IsFit : Setup → (a : ℕ) → Log → Event → Own → Type 0
 IsFit u a l (Fetch h walk code) o = (a < u.layout.harts) × IsFetch u a l walk code o
 IsFit u a l (Exec h walk second did) o = (a < u.layout.harts) × IsExec u a l walk second did o
@@ -151,8 +166,8 @@ IsFit u a l (Flushes h what) o = (a < u.layout.harts) × (is_due u.limit (events
 IsFit u a l (Begin h at opaque) o = (a < u.layout.harts) × IsStart u a l at opaque o
 IsFit u a l (Stop by reason) o = IsStop u a l reason o
 IsFit u a l (Await count) o = (a ≡ monitor) × IsAwait u l count
-IsFit u a l SnapBegin o = (a ≡ monitor) × NextLine (script_of u.script (events_of l)) Snapshot × (passes is_snap_begin (last_of a (events_of l)) ≡ false)
-IsFit u a l (SnapEnd pages) o = (a ≡ monitor) × NextLine (script_of u.script (events_of l)) Snapshot × IsTrue (passes is_snap_begin (last_of a (events_of l)))
+IsFit u a l SnapBegin o = (a ≡ monitor) × IsSnapBegin u l
+IsFit u a l (SnapEnd pages) o = (a ≡ monitor) × IsSnapEnd u l pages
 IsFit u a l (Dump at bytes) o = (a ≡ monitor) × NextLine (script_of u.script (events_of l)) (DumpBytes at (length bytes))
     × ((w : Surroundings) → MayBe u a l w → bytes ≡ bytes_from w.memory at (length bytes))
 

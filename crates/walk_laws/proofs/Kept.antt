@@ -3,7 +3,7 @@ use Rattle.std.proofs.Common.{◌≡◌, ℕ, false, List, [], ◌∷◌, ◌++�
 use Rattle.rv64_priv.specs.Flush.{Flush, covers}
 use Rattle.step_laws.specs.declared.steps.Step.{Step}
 use Rattle.walk_laws.specs.WalkLoads.{Found, AreLoaded, reads_of}
-use Rattle.walk_laws.specs.KeptWalks.{Item, made, flushed, HasStood, made_all, WalkIsKept, StaysOverSteps, StaysOverFlush}
+use Rattle.walk_laws.specs.KeptWalks.{Item, flushed, HasStood, made_all, WalkIsKept, StaysOverSteps, StaysOverFlush}
 
 loaded_stood : (va level : ℕ) (xs : List Found) (r : List Step) (items : List Item) → AreLoaded xs r → HasStood va level xs (made_all r ++ items)
 loaded_stood va level [] r items k = tt

@@ -1,7 +1,6 @@
 -- The loads of a walk are of RAM.
-use Rattle.std.proofs.Common.{◌≡◌, ℕ, zero, suc, ◌*◌, ◌%◌, ◌^◌, Bool, true, false, List, [], ◌∷◌, refl, sym, subst}
+use Rattle.std.proofs.Common.{◌≡◌, ℕ, zero, suc, ◌*◌, ◌%◌, ◌^◌, Bool, true, false, List, [], ◌∷◌}
 use Rattle.std.specs.Prelude.{◌||◌, if◌then◌else◌}
-use Rattle.rv64_priv.specs.declared.state.Regime.{Regime}
 use Rattle.rv64_priv.specs.Pte.{is_bare, is_malformed, is_leaf, ppn}
 use Rattle.rv64_priv.specs.Walk.{is_ram, is_canonical, pte_address}
 use Rattle.step_laws.specs.Words.{ram_word}

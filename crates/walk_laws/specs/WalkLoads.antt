@@ -9,7 +9,7 @@ use Rattle.rv64_priv.specs.Reads.{answering}
 use Rattle.step_laws.specs.declared.steps.Step.{Step}
 use Rattle.step_laws.specs.declared.steps.WordOp.TheVariants.{Load}
 use Rattle.step_laws.specs.Words.{ram_word}
-use Rattle.step_laws.specs.Map.{Word, Ram, name_of}
+use Rattle.step_laws.specs.Map.{Ram, name_of}
 
 -- what a load found
 pub record Found : Type 0 where
