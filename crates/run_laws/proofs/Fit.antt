@@ -31,7 +31,7 @@ use Rattle.run_laws.proofs.Fits.{Sees, AskedFor, FencesShown, FitsFetch, FitsExe
 use Rattle.turn_pieces.specs.Right.{FetchedAt}
 use Rattle.turn_pieces.specs.Log.{Log, steps_of, events_of, before, AtLast, HasStood}
 use Rattle.run_laws.proofs.Placed.{placed_of}
-use Rattle.turn_pieces.specs.Kept.{part}
+use Rattle.turn_pieces.specs.Kept.{own_part}
 use Rattle.turn_pieces.specs.Requests.{HasAsked}
 use Rattle.turn_pieces.specs.Right.{IsSeen, SeenFor, SeenMade, HeldHere, MayBe, AreFenced, IsFetch, IsExec, IsGiveUp, IsCalled, IsInterrupt, IsOwnStart, IsStart, IsStop, IsCount, IsAwait, IsFit}
 use Rattle.run_laws.proofs.Same.{same_steps, same_before, AtTop, same_top, same_stood, same_held, same_drawn, same_handed, same_flushed, same_asked}
@@ -45,11 +45,11 @@ module _ (u : Setup) (a : ℕ) (l : Log) (t : Placed) (r : List Placed) (is : pl
   abbrev p : List Placed
   p = t ∷ r
 
-  part_is : part u a l ≡ part_at u a p
+  part_is : own_part u a l ≡ part_at u a p
   part_is = ap (λ run. own_of a run (own (hart (initial u) a))) (sym run_is)
 
   -- from what is said of the log's part and events
-  by_part : (P : Own → List Event → Type 0) → P (part u a l) (events_of l) → P (part_at u a p) (run_of p)
+  by_part : (P : Own → List Event → Type 0) → P (own_part u a l) (events_of l) → P (part_at u a p) (run_of p)
   by_part P x = subst (λ run. P (own_of a run (own (hart (initial u) a))) run) (sym run_is) x
 
   at_top : (P : Step → Type 0) → AtLast P l → P t.step
@@ -99,7 +99,7 @@ module _ (u : Setup) (a : ℕ) (l : Log) (t : Placed) (r : List Placed) (is : pl
       (λ t. (t ≡ a → Flushed (run_of p) a a f.what) × (t ≢ a → AskedFor a t f.what p)) f.harts
       (λ c k. ((λ e. subst (λ run. Flushed run a a f.what) (sym run_is) (k.0 e)), (λ ne. subst (AskedFor a c f.what) is (same_asked a c f.what l (k.1 ne))))) x
 
-  fit_fetch : (walk : Walked) (code : Code) → IsFetch u a l walk code (part u a l) → FitsFetch u a t.step p walk code
+  fit_fetch : (walk : Walked) (code : Code) → IsFetch u a l walk code (own_part u a l) → FitsFetch u a t.step p walk code
   fit_fetch walk code x = record {
     runs = by_part (λ o run. o.runs ≡ true) x.runs;
     holds_none = by_part (λ o run. o.held ≡ None) x.holds_none;
@@ -108,30 +108,30 @@ module _ (u : Setup) (a : ℕ) (l : Log) (t : Placed) (r : List Placed) (is : pl
     loaded = stood (is_of a) (found ipi_word x.ipi ∷ []) x.loaded;
     quiet = by_part (λ o run. is_pending o.arch a x.ipi ≡ false) x.quiet;
     shown = by_part (λ o run. IsShown u.layout.pages a o.arch Kind.Fetch o.arch.pc walk p)
-        (shown u.layout.pages a (part u a l).arch Kind.Fetch (part u a l).arch.pc walk x.shown);
-    fetched = by_part (λ o run. FetchedAt t.step o.arch.pc walk code) (at_top (λ s. FetchedAt s (part u a l).arch.pc walk code) x.fetched);
+        (shown u.layout.pages a (own_part u a l).arch Kind.Fetch (own_part u a l).arch.pc walk x.shown);
+    fetched = by_part (λ o run. FetchedAt t.step o.arch.pc walk code) (at_top (λ s. FetchedAt s (own_part u a l).arch.pc walk code) x.fetched);
   }
 
-  fit_exec : (walk second : Walked) (did : Outcome) → IsExec u a l walk second did (part u a l) → FitsExec u a t.step p walk second did
+  fit_exec : (walk second : Walked) (did : Outcome) → IsExec u a l walk second did (own_part u a l) → FitsExec u a t.step p walk second did
   fit_exec walk second did x = record {
     holds = by_part (λ o run. IsSome o.held) x.holds;
     shown = by_part (λ o run. ShownFor u.layout.pages a o.arch (access_of (need_held o.arch o.held)) walk second p)
-        (shown_for u.layout.pages a (part u a l).arch (access_of (need_held (part u a l).arch (part u a l).held)) walk second x.shown);
+        (shown_for u.layout.pages a (own_part u a l).arch (access_of (need_held (own_part u a l).arch (own_part u a l).held)) walk second x.shown);
     flushed = λ w s. by_part (λ o run. FencesShown a p (flushing w a o.arch (need_held o.arch o.held)))
-        (fenced (flushing w a (part u a l).arch (need_held (part u a l).arch (part u a l).held)) (x.flushed w (may_be w s)));
+        (fenced (flushing w a (own_part u a l).arch (need_held (own_part u a l).arch (own_part u a l).held)) (x.flushed w (may_be w s)));
     right = λ w s. by_part (λ o run. did ≡ Rattle.machine_model.specs.Perform.perform w a o.arch walk second (need_held o.arch o.held)) (x.right w (may_be w s));
   }
 
-  fit_give_up : (walks : List Walked) → IsGiveUp u a l walks (part u a l) → FitsGiveUp u a p walks
+  fit_give_up : (walks : List Walked) → IsGiveUp u a l walks (own_part u a l) → FitsGiveUp u a p walks
   fit_give_up walks x = record {
     holds = by_part (λ o run. IsSome o.held) x.holds;
     shown = by_part (λ o run. ShownMade u.layout.pages a o.arch (access_of (need_held o.arch o.held)) walks p)
-        (shown_made u.layout.pages a (part u a l).arch (access_of (need_held (part u a l).arch (part u a l).held)) walks x.shown);
+        (shown_made u.layout.pages a (own_part u a l).arch (access_of (need_held (own_part u a l).arch (own_part u a l).held)) walks x.shown);
   }
 
-  fit_interrupt : IsInterrupt u a l (part u a l) → FitsInterrupt u a t.step p
+  fit_interrupt : IsInterrupt u a l (own_part u a l) → FitsInterrupt u a t.step p
   fit_interrupt x =
-      let k = at_top (IsCalled a (part u a l).arch) x.called in record {
+      let k = at_top (IsCalled a (own_part u a l).arch) x.called in record {
         runs = by_part (λ o run. o.runs ≡ true) x.runs;
         holds_none = by_part (λ o run. o.held ≡ None) x.holds_none;
         not_due = by_part (λ o run. is_due u.limit run a o.count ≡ false) x.not_due;
@@ -140,7 +140,7 @@ module _ (u : Setup) (a : ℕ) (l : Log) (t : Placed) (r : List Placed) (is : pl
         pending = by_part (λ o run. IsTrue (is_pending o.arch a t.step.answer)) k.2;
       }
 
-  fit_start : (at opaque : ℕ) → IsStart u a l at opaque (part u a l) → FitsStart u a t.step p at opaque
+  fit_start : (at opaque : ℕ) → IsStart u a l at opaque (own_part u a l) → FitsStart u a t.step p at opaque
   fit_start at opaque x =
       let k = at_top (IsOwnStart a) x.stored in record {
         not_due = by_part (λ o run. is_due u.limit run a o.count ≡ false) x.not_due;
@@ -152,7 +152,7 @@ module _ (u : Setup) (a : ℕ) (l : Log) (t : Placed) (r : List Placed) (is : pl
         flushed = ap (flushed_waiting a) (sym before_is) ∙ (same_flushed a (before l) ∙ x.flushed_all);
       }
 
-  fit_stop : (reason : Reason) → IsStop u a l reason (part u a l) → FitsStop u a p reason
+  fit_stop : (reason : Reason) → IsStop u a l reason (own_part u a l) → FitsStop u a p reason
   fit_stop (Reason.Limit h) x = (x.0, x.1, by_part (λ o run. is_due u.limit run a o.count ≡ true) x.2)
   fit_stop Reason.AllStopped x = (
     by_part (λ o run. IsTrue (passes leaves (last_of a run))) x.0,
@@ -177,7 +177,7 @@ module _ (u : Setup) (a : ℕ) (l : Log) (t : Placed) (r : List Placed) (is : pl
   began : a ≡ monitor → (P : Bool → Type 0) → P (passes is_snap_begin (last_of monitor (events_of l))) → P (passes is_snap_begin (last_of a (run_of p)))
   began is P x = by_part (λ o run. P (passes is_snap_begin (last_of a run))) (subst (λ b. P (passes is_snap_begin (last_of b (events_of l)))) (sym is) x)
 
-  pub fits : (e : Event) → IsFit u a l e (part u a l) → Fits u a t.step p e
+  pub fits : (e : Event) → IsFit u a l e (own_part u a l) → Fits u a t.step p e
   fits (Fetch h walk code) x = (x.0, fit_fetch walk code x.1)
   fits (Exec h walk second did) x = (x.0, fit_exec walk second did x.1)
   fits (GiveUp h walks) x = (x.0, fit_give_up walks x.1)

@@ -12,7 +12,7 @@ use Rattle.machine_model.specs.Own.{Own, own}
 use Rattle.machine_model.specs.Own.{own_of}
 use Rattle.machine_model.specs.Run.{flushes}
 use Rattle.run_laws.proofs.Placed.{Placed, steps, run_of, has_entry}
-use Rattle.turn_pieces.specs.Folds.{Unstored, drawn_next, flushed_next, handed_next, held_next, is_waiting, some_bytes, stored_next, unstored_next}
+use Rattle.turn_pieces.specs.Folds.{Unstored, drawn_next, flushed_all_next, handed_on_next, known_word_next, is_waiting, are_some, stored_next, unstored_next}
 
 -- the actor's own part of the reference machine's state
 abbrev pub part_at : Setup → ℕ → List Placed → Own
@@ -33,11 +33,11 @@ half (t ∷ r) = if has_entry t.events then whole else half_next t.step.op (name
 
 abbrev pub held_at : (at : ℕ) → List Placed → Option ℕ
 held_at at [] = None
-held_at at (t ∷ r) = if has_entry t.events then None else held_next at (name_of t.step.word) t.step.op t.step.word t.step.answer (held_at at r)
+held_at at (t ∷ r) = if has_entry t.events then None else known_word_next at (name_of t.step.word) t.step.op t.step.word t.step.answer (held_at at r)
 
 abbrev pub has_bytes : List Event → Bool
 has_bytes [] = false
-has_bytes (e ∷ es) = is_some (did_of e).reason || (some_bytes (did_of e).bytes || has_bytes es)
+has_bytes (e ∷ es) = is_some (did_of e).reason || (are_some (did_of e).bytes || has_bytes es)
 
 abbrev pub drawn : List Placed → List ℕ
 drawn [] = []
@@ -58,10 +58,10 @@ unstored (t ∷ r) = unstored_next (name_of t.step.word) t.step.op t.step.answer
 
 abbrev pub handed_word : ℕ → Word → List Placed → Option ℕ
 handed_word a w [] = None
-handed_word a w (t ∷ r) = handed_next a w (name_of t.step.word) t.step.op t.step.answer (handed_word a w r)
+handed_word a w (t ∷ r) = handed_on_next a w (name_of t.step.word) t.step.op t.step.answer (handed_word a w r)
 
 -- since then it flushed everything
 abbrev pub flushed_waiting : ℕ → List Placed → Bool
 flushed_waiting a [] = false
 flushed_waiting a (t ∷ r) =
-    flushed_next a (name_of t.step.word) t.step.op (is_waiting (taking a (steps r)) && list_any (flushes a Full) t.events) (flushed_waiting a r)
+    flushed_all_next a (name_of t.step.word) t.step.op (is_waiting (taking a (steps r)) && list_any (flushes a Full) t.events) (flushed_waiting a r)

@@ -16,7 +16,7 @@ use Rattle.step_laws.specs.Words.{console_places}
 use Rattle.run_laws.proofs.Placed.{Placed, steps}
 use Rattle.run_laws.proofs.Kept.{Half, whole, part, half, half_next, has_bytes, drawn, stored_bytes, unstored}
 use Rattle.turn_pieces.specs.Folds.{drawn_next, stored_next, Unstored, unstored_next}
-use Rattle.turn_pieces.specs.Doing.{Does, Fills}
+use Rattle.turn_pieces.specs.Doing.{HasDone, IsCutShort}
 use Rattle.run_laws.proofs.Accounts.{AreQuiet, Accounts, calm, writes as by_write, writes_half, writes_rest, draws as by_draw, fills as by_fill, draws_none, draws_more, fills_more, fills_last, ends, takes as by_take, gives_start, gives_opaque, lets, begins_here, leaves_here}
 use Rattle.run_laws.proofs.Bridge.{half_of, books_at, after}
 use Rattle.turn_pieces.specs.Owed.{Owed, nothing, paid, writes, stores, draws, fills, gives, takes, owes_store, owes_byte, owes_own, owes, unstored_did, IsPromised, IsNext, May, IsJoin, MayBehind, PaysFor}
@@ -126,7 +126,7 @@ module _ (u : Setup) (a : ℕ) (r : List Placed) (n : ℕ) where
     half_is = h;
     head = record {
       by_event = λ e x. fills_last {first = x.first} h k.inside k.drawn k.is_byte k.none x.first_is x.fits k.count
-          (subst (λ ds. Does e None (stored_next (Console i) Store arg ds (stored_bytes r)) None None false) k.drawn x.pays.does) x.pays.begins_not tt;
+          (subst (λ ds. HasDone e None (stored_next (Console i) Store arg ds (stored_bytes r)) None None false) k.drawn x.pays.does) x.pays.begins_not tt;
       by_none = λ x. fills_more h k.inside k.drawn k.is_byte k.count k.none tt;
       byte_is = λ bs. refl;
     };
@@ -154,7 +154,7 @@ module _ (u : Setup) (a : ℕ) (r : List Placed) (n : ℕ) where
     half_is = h;
     head = record {
       by_event = λ e x. subst (λ m. Accounts u a r n Stop (Exchange 0) m answer (e ∷ [])) (sym x.is)
-          (ends (stored_bytes r) h (subst (λ bs. Does e None bs (Some x.reason) None false) bytes_are x.pays.does) refl (subst (Fills (drawn r)) bytes_are x.fills_it) x.pays.begins_not tt);
+          (ends (stored_bytes r) h (subst (λ bs. HasDone e None bs (Some x.reason) None false) bytes_are x.pays.does) refl (subst (IsCutShort (drawn r)) bytes_are x.fills_it) x.pays.begins_not tt);
       by_none = λ x. absurd x;
       byte_is = λ bs. refl;
     };

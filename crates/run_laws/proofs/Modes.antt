@@ -23,7 +23,7 @@ use Rattle.run_laws.proofs.Placed.{Placed, run_of, mine, By}
 use Rattle.turn_pieces.specs.Shared.{IsShared, mode_named}
 use Rattle.run_laws.proofs.Fits.{runs_first}
 use Rattle.run_laws.proofs.Accounts.{AreQuiet, Accounts, calm, writes, writes_half, writes_rest, draws, fills, draws_none, draws_more, fills_more, fills_last, ends, takes, gives_start, gives_opaque, lets, begins_here, leaves_here}
-use Rattle.turn_pieces.specs.Doing.{IsCalm, begins}
+use Rattle.turn_pieces.specs.Doing.{IsCalm, is_begin}
 use Rattle.run_laws.proofs.Beginning.{IsBegun, history}
 use Rattle.run_laws.proofs.Used.{IsOpening}
 use Rattle.run_laws.proofs.Pieces.{Told, IsIdleStep}
@@ -41,12 +41,12 @@ IsHsm _ = ⊥
 -- the ways of a step with regard to harts' modes
 pub data Turns (a : ℕ) (w : Word) (op : WordOp) (arg answer : ℕ) : List Event → Type 0 where
   keeps : {es : List Event} → (IsHsm w → Still op answer) → AreQuiet es → Turns a w op arg answer es
-  moves : {e : Event} {es : List Event} → (IsHsm w → ⊥) → (did_of e).starts ≡ None → (did_of e).stops ≡ false → begins e ≡ false → AreQuiet es → Turns a w op arg answer (e ∷ es)
+  moves : {e : Event} {es : List Event} → (IsHsm w → ⊥) → (did_of e).starts ≡ None → (did_of e).stops ≡ false → is_begin e ≡ false → AreQuiet es → Turns a w op arg answer (e ∷ es)
   opens : {e : Event} {es : List Event} (t at opaque : ℕ) → w ≡ Hsm t → op ≡ Exchange 1 → arg ≡ 3 → answer ≡ 1 → (did_of e).starts ≡ Some (record { target = t; at = at; opaque = opaque })
-      → (did_of e).stops ≡ false → begins e ≡ false → AreQuiet es → Turns a w op arg answer (e ∷ es)
+      → (did_of e).stops ≡ false → is_begin e ≡ false → AreQuiet es → Turns a w op arg answer (e ∷ es)
   hands : {es : List Event} (t : ℕ) → w ≡ Hsm t → op ≡ Store → arg ≡ 2 → AreQuiet es → Turns a w op arg answer es
-  starts : {e : Event} {es : List Event} → w ≡ Hsm a → op ≡ Store → arg ≡ 0 → (did_of e).starts ≡ None → begins e ≡ true → AreQuiet es → Turns a w op arg answer (e ∷ es)
-  stops : {e : Event} {es : List Event} → w ≡ Hsm a → op ≡ Store → arg ≡ 1 → (did_of e).starts ≡ None → (did_of e).stops ≡ true → begins e ≡ false → AreQuiet es → Turns a w op arg answer (e ∷ es)
+  starts : {e : Event} {es : List Event} → w ≡ Hsm a → op ≡ Store → arg ≡ 0 → (did_of e).starts ≡ None → is_begin e ≡ true → AreQuiet es → Turns a w op arg answer (e ∷ es)
+  stops : {e : Event} {es : List Event} → w ≡ Hsm a → op ≡ Store → arg ≡ 1 → (did_of e).starts ≡ None → (did_of e).stops ≡ true → is_begin e ≡ false → AreQuiet es → Turns a w op arg answer (e ∷ es)
 
 calm_hsm : (w : Word) (op : WordOp) (answer : ℕ) → IsHsm w → IsCalm w op answer → Still op answer
 calm_hsm (Hsm t) Load answer s c = tt

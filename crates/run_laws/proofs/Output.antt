@@ -23,13 +23,13 @@ use Rattle.machine_model.specs.Perform.{room}
 use Rattle.step_laws.specs.Words.{console_places}
 use Rattle.machine_model.specs.Run.{state_of}
 use Rattle.run_laws.proofs.Placed.{Placed, placed, steps, run_of, mine}
-use Rattle.turn_pieces.specs.Folds.{some_bytes, drawn_next}
+use Rattle.turn_pieces.specs.Folds.{are_some, drawn_next}
 use Rattle.run_laws.proofs.Kept.{has_bytes, drawn, stored_bytes}
 use Rattle.turn_pieces.specs.Doing.{first_drawn}
 use Rattle.turn_pieces.specs.Shared.{IsShared}
 use Rattle.run_laws.proofs.Fits.{FitsAwait}
 use Rattle.run_laws.proofs.Accounts.{AreQuiet, IsSectional, Accounts, calm, writes, writes_half, writes_rest, draws, fills, draws_none, draws_more, fills_more, fills_last, ends, takes, gives_start, gives_opaque, lets, begins_here, leaves_here}
-use Rattle.turn_pieces.specs.Doing.{IsCalm, Fills}
+use Rattle.turn_pieces.specs.Doing.{IsCalm, IsCutShort}
 use Rattle.run_laws.proofs.Beginning.{IsBegun, history}
 use Rattle.run_laws.specs.Ended.{IsFilled as Full}
 use Rattle.run_laws.proofs.Weave.{by_mine, mine_here, mine_other}
@@ -50,7 +50,7 @@ quiet_bytes (e ∷ es) q = (q.0.does.reason_is, q.0.does.bytes_are, quiet_bytes 
 
 pub no_bytes : (es : List Event) → NoBytes es → has_bytes es ≡ false
 no_bytes [] q = refl
-no_bytes (e ∷ es) q = λ i. is_some (q.0 i) || (some_bytes (q.1 i) || no_bytes es q.2 i)
+no_bytes (e ∷ es) q = λ i. is_some (q.0 i) || (are_some (q.1 i) || no_bytes es q.2 i)
 
 -- the ways of a step with regard to the output
 data Prints (u : Setup) (a : ℕ) (r : List Placed) (w : Word) (op : WordOp) (arg answer : ℕ) : List Event → Type 0 where
@@ -59,8 +59,8 @@ data Prints (u : Setup) (a : ℕ) (r : List Placed) (w : Word) (op : WordOp) (ar
       → Prints u a r w op arg answer (e ∷ es)
   more : {es : List Event} → w ≡ Cons → op ≡ Add → arg ≡ 1 → (console_places ≤ answer) ⊎ IsInSection u.layout a (steps r) → AreQuiet es → Prints u a r w op arg answer es
   all : {e : Event} {es : List Event} (i first : ℕ) (bytes : List ℕ) → w ≡ Console i → first_drawn (drawn r) ≡ Some first → first + length (drawn r) ≤ console_places
-      → (did_of e).reason ≡ None → (did_of e).bytes ≡ bytes → some_bytes bytes ≡ true → length bytes ≡ length (drawn r) → AreQuiet es → Prints u a r w op arg answer (e ∷ es)
-  full : {e : Event} {es : List Event} (reason : Reason) (bytes : List ℕ) → w ≡ Stop → (did_of e).reason ≡ Some reason → (did_of e).bytes ≡ bytes → Fills (drawn r) bytes → AreQuiet es
+      → (did_of e).reason ≡ None → (did_of e).bytes ≡ bytes → are_some bytes ≡ true → length bytes ≡ length (drawn r) → AreQuiet es → Prints u a r w op arg answer (e ∷ es)
+  full : {e : Event} {es : List Event} (reason : Reason) (bytes : List ℕ) → w ≡ Stop → (did_of e).reason ≡ Some reason → (did_of e).bytes ≡ bytes → IsCutShort (drawn r) bytes → AreQuiet es
       → Prints u a r w op arg answer (e ∷ es)
 
 calm_cons : (w : Word) (op : WordOp) (answer : ℕ) → IsCalm w op answer → w ≡ Cons → Still op answer
@@ -76,7 +76,7 @@ shared_inside (Run b) s k = s
 shared_inside Pend s k = s
 shared_inside w s k = k
 
-some_end : (bs : List ℕ) (b : ℕ) → some_bytes (bs ++ b ∷ []) ≡ true
+some_end : (bs : List ℕ) (b : ℕ) → are_some (bs ++ b ∷ []) ≡ true
 some_end [] b = refl
 some_end (x ∷ bs) b = refl
 
@@ -252,11 +252,11 @@ module _ (u : Setup) (boot : List Step) (runs : ℕ → Bool) (begun : IsBegun u
       out_more e es is q = ap (λ l. length (state_of u (l ++ run_of ts)).output) is
           ∙ (printed_length (state_of u (es ++ run_of ts)).output (did_of e).bytes ∙ ap (λ o. length o + length (did_of e).bytes) (output_quiet u es (run_of ts) q))
 
-      has_here : (e : Event) (es : List Event) → t.events ≡ e ∷ es → (did_of e).reason ≡ None → some_bytes (did_of e).bytes ≡ true → has_bytes t.events ≡ true
+      has_here : (e : Event) (es : List Event) → t.events ≡ e ∷ es → (did_of e).reason ≡ None → are_some (did_of e).bytes ≡ true → has_bytes t.events ≡ true
       has_here e es is n b = ap has_bytes is ∙ (λ i. is_some (n i) || (b i || has_bytes es))
 
       has_reason : (e : Event) (es : List Event) (reason : Reason) → t.events ≡ e ∷ es → (did_of e).reason ≡ Some reason → has_bytes t.events ≡ true
-      has_reason e es reason is n = ap has_bytes is ∙ (λ i. is_some (n i) || (some_bytes (did_of e).bytes || has_bytes es))
+      has_reason e es reason is n = ap has_bytes is ∙ (λ i. is_some (n i) || (are_some (did_of e).bytes || has_bytes es))
 
       -- one byte is drawn with its event
       one_step : (e : Event) (es : List Event) (byte : ℕ) → t.events ≡ e ∷ es → name_of t.step.word ≡ Cons → t.step.op ≡ Add → t.step.arg ≡ 1 → drawn r ≡ [] → t.step.answer < console_places
@@ -268,7 +268,7 @@ module _ (u : Setup) (boot : List Step) (runs : ℕ → Bool) (begun : IsBegun u
       one_step e es byte is w o ar none lt n b q (shut fl pend) = shut full_now (λ a i k. absurd (nobody a i (drawn_none t r here) (λ x j away l. let z = (pend x j l).1 in omega (arith, z, lt, is_cons)) k))
         where
           here : has_bytes t.events ≡ true
-          here = has_here e es is n (ap some_bytes b)
+          here = has_here e es is n (ap are_some b)
 
           is_cons : t.step.answer ≡ cons boot ts
           is_cons = cons_answer w (λ k. cc (o, k))
@@ -360,13 +360,13 @@ module _ (u : Setup) (boot : List Step) (runs : ℕ → Bool) (begun : IsBegun u
 
       -- the last byte of a call is stored, with the event
       all_step : (e : Event) (es : List Event) (i first : ℕ) (bytes : List ℕ) → t.events ≡ e ∷ es → name_of t.step.word ≡ Console i → first_drawn (drawn r) ≡ Some first → first + length (drawn r) ≤ console_places
-          → (did_of e).reason ≡ None → (did_of e).bytes ≡ bytes → some_bytes bytes ≡ true → length bytes ≡ length (drawn r) → AreQuiet es → Out u boot ts → Out u boot (t ∷ ts)
+          → (did_of e).reason ≡ None → (did_of e).bytes ≡ bytes → are_some bytes ≡ true → length bytes ≡ length (drawn r) → AreQuiet es → Out u boot ts → Out u boot (t ∷ ts)
       all_step e es i first bytes is w f room n b s len q (shut fl pend) = let p = (pend c first f).0 in let z = first_some (drawn r) first f in absurd (omega (arith, p, room, z))
       all_step e es i first bytes is w f room n b s len q (open_by a j k) = elim (cases_eq a c) [ inl g ↦ done g | inr away ↦ absurd (lone (subst IsGuarded (sym w) tt) a j k away) ]
         where
           done : a ≡ c → Out u boot (t ∷ ts)
           done g =
-              let here : has_bytes t.events ≡ true = has_here e es is n (ap some_bytes b ∙ s) in
+              let here : has_bytes t.events ≡ true = has_here e es is n (ap are_some b ∙ s) in
               let same_first : j ≡ first = some_same j first (first_drawn (drawn r)) (sym (ap (λ x. first_drawn (drawn (mine x ts))) g) ∙ k.first) f in
               let x = cons_same (λ z. absurd (cc (w, z))) in
               let y = out_more e es is q ∙ ap (λ bs. out u ts + length bs) b in
@@ -377,7 +377,7 @@ module _ (u : Setup) (boot : List Step) (runs : ℕ → Bool) (begun : IsBegun u
 
       -- a reason is given, with the bytes for which there was room
       full_step : (e : Event) (es : List Event) (reason : Reason) (bytes : List ℕ) → t.events ≡ e ∷ es → name_of t.step.word ≡ Stop → (did_of e).reason ≡ Some reason → (did_of e).bytes ≡ bytes
-          → Fills (drawn r) bytes → AreQuiet es → Out u boot ts → Out u boot (t ∷ ts)
+          → IsCutShort (drawn r) bytes → AreQuiet es → Out u boot ts → Out u boot (t ∷ ts)
       full_step e es reason bytes is w n b fit q o = go (first_drawn (drawn r)) refl o
         where
           here : has_bytes t.events ≡ true

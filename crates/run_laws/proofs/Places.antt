@@ -19,12 +19,12 @@ use Rattle.machine_model.specs.Change.{printed}
 use Rattle.step_laws.specs.Words.{console_places}
 use Rattle.machine_model.specs.Run.{state_of}
 use Rattle.run_laws.proofs.Placed.{Placed, run_of, mine}
-use Rattle.turn_pieces.specs.Folds.{some_bytes, stored_next, Unstored, unstored_next}
+use Rattle.turn_pieces.specs.Folds.{are_some, stored_next, Unstored, unstored_next}
 use Rattle.run_laws.proofs.Kept.{has_bytes, drawn, stored_bytes, unstored, bytes_of}
 use Rattle.turn_pieces.specs.Doing.{first_drawn}
 use Rattle.turn_pieces.specs.Shared.{IsShared}
 use Rattle.run_laws.proofs.Accounts.{AreQuiet, Accounts, calm, writes, writes_half, writes_rest, draws, fills, draws_none, draws_more, fills_more, fills_last, ends, takes, gives_start, gives_opaque, lets, begins_here, leaves_here}
-use Rattle.turn_pieces.specs.Doing.{IsCalm, Fills}
+use Rattle.turn_pieces.specs.Doing.{IsCalm, IsCutShort}
 use Rattle.run_laws.proofs.Pieces.{Told, IsIdleStep}
 use Rattle.run_laws.proofs.Beginning.{IsBegun, history}
 use Rattle.run_laws.specs.Ended.{byte_at as byte}
@@ -85,7 +85,7 @@ pub data Stores (r : List Placed) (w : Word) (op : WordOp) (arg answer : ℕ) : 
       → Stores r w op arg answer es
   fill_last : {e : Event} {es : List Event} (i : ℕ) (ds : List ℕ) → w ≡ Console i → op ≡ Store → drawn r ≡ i ∷ ds → 256 ≤ arg → suc (length (stored_bytes r)) ≡ length (drawn r) → unstored r ≡ None
       → (did_of e).reason ≡ None → (did_of e).bytes ≡ stored_bytes r ++ (arg - 256) ∷ [] → AreQuiet es → Stores r w op arg answer (e ∷ es)
-  full : {e : Event} {es : List Event} (reason : Reason) → w ≡ Stop → (did_of e).reason ≡ Some reason → (did_of e).bytes ≡ stored_bytes r → Fills (drawn r) (stored_bytes r) → AreQuiet es
+  full : {e : Event} {es : List Event} (reason : Reason) → w ≡ Stop → (did_of e).reason ≡ Some reason → (did_of e).bytes ≡ stored_bytes r → IsCutShort (drawn r) (stored_bytes r) → AreQuiet es
       → Stores r w op arg answer (e ∷ es)
 
 calm_place : (w : Word) (op : WordOp) (answer : ℕ) → IsCalm w op answer → IsPlace w → Still op answer
@@ -116,7 +116,7 @@ stores_of (draws_none h le q) = draw_more refl refl q
 stores_of (draws_more h k q) = draw_more refl refl q
 stores_of (fills_more {i = i} {ds = ds} h k p le zz uu q) = fill_more i ds refl refl p le zz uu q
 stores_of (fills_last {i = i} {ds = ds} h k p le uu f g z d b q) = fill_last i ds refl refl p le z uu d.reason_is d.bytes_are q
-stores_of {r = r} (ends {reason = reason} bytes h d g f b q) = full reason refl d.reason_is (d.bytes_are ∙ g) (subst (Fills (drawn r)) g f) q
+stores_of {r = r} (ends {reason = reason} bytes h d g f b q) = full reason refl d.reason_is (d.bytes_are ∙ g) (subst (IsCutShort (drawn r)) g f) q
 stores_of (takes {es = es} at opaque h d b q) = idle (λ s. absurd s) (λ e. absurd (cc (e))) (d.reason_is, d.bytes_are, quiet_bytes es q)
 stores_of (gives_start {es = es} opaque h g q) = idle (λ s. absurd s) (λ e. absurd (cc (e))) (quiet_bytes es q)
 stores_of (gives_opaque {es = es} at h g q) = idle (λ s. absurd s) (λ e. absurd (cc (e))) (quiet_bytes es q)
@@ -306,7 +306,7 @@ module _ (u : Setup) (boot : List Step) (runs : ℕ → Bool) (begun : IsBegun u
           more = text_more e es (b ∷ []) is bs q
 
           here : has_bytes t.events ≡ true
-          here = ap has_bytes is ∙ (λ i. is_some (n i) || (some_bytes (bs i) || has_bytes es))
+          here = ap has_bytes is ∙ (λ i. is_some (n i) || (are_some (bs i) || has_bytes es))
 
           gone : drawn (t ∷ r) ≡ []
           gone = drawn_none t r here
@@ -510,15 +510,15 @@ module _ (u : Setup) (boot : List Step) (runs : ℕ → Bool) (begun : IsBegun u
             more : text_of u (t ∷ ts) ≡ printed (text_of u ts) (stored_bytes r ++ (t.step.arg - 256) ∷ [])
             more = text_more e es (stored_bytes r ++ (t.step.arg - 256) ∷ []) is bs q
 
-            some : (xs : List ℕ) (x : ℕ) → some_bytes (xs ++ x ∷ []) ≡ true
+            some : (xs : List ℕ) (x : ℕ) → are_some (xs ++ x ∷ []) ≡ true
             some [] x = refl
             some (y ∷ xs) x = refl
 
             gone : drawn (t ∷ r) ≡ []
-            gone = drawn_none t r (ap has_bytes is ∙ ((λ j. is_some (n j) || (some_bytes (bs j) || has_bytes es)) ∙ ap (λ v. v || has_bytes es) (some (stored_bytes r) (t.step.arg - 256))))
+            gone = drawn_none t r (ap has_bytes is ∙ ((λ j. is_some (n j) || (are_some (bs j) || has_bytes es)) ∙ ap (λ v. v || has_bytes es) (some (stored_bytes r) (t.step.arg - 256))))
 
       -- a reason, with the bytes for which there was room
-      full_step : (e : Event) (es : List Event) (reason : Reason) → t.events ≡ e ∷ es → name_of t.step.word ≡ Stop → (did_of e).reason ≡ Some reason → (did_of e).bytes ≡ stored_bytes r → Fills (drawn r) (stored_bytes r)
+      full_step : (e : Event) (es : List Event) (reason : Reason) → t.events ≡ e ∷ es → name_of t.step.word ≡ Stop → (did_of e).reason ≡ Some reason → (did_of e).bytes ≡ stored_bytes r → IsCutShort (drawn r) (stored_bytes r)
           → AreQuiet es → Placing u boot (t ∷ ts)
       full_step e es reason is w n bs fit q = record {
         text = λ j b z. elim (printed_split (text_of u ts) (stored_bytes r) j b (sym (ap (λ l. byte l j) more) ∙ z)) [
@@ -540,7 +540,7 @@ module _ (u : Setup) (boot : List Step) (runs : ℕ → Bool) (begun : IsBegun u
           un = λ i. unstored_next (w i) t.step.op t.step.answer (bytes_of t.events) (unstored r)
 
           gone : drawn (t ∷ r) ≡ []
-          gone = drawn_none t r (ap has_bytes is ∙ (λ j. is_some (n j) || (some_bytes (did_of e).bytes || has_bytes es)))
+          gone = drawn_none t r (ap has_bytes is ∙ (λ j. is_some (n j) || (are_some (did_of e).bytes || has_bytes es)))
 
           new_byte : (l : List ℕ) → drawn r ≡ l → (i j b : ℕ) → i ≡ length (text_of u ts) + j → byte (stored_bytes r) j ≡ Some b → place boot (t ∷ ts) i ≡ b + 256
           new_byte [] e i j b at k = absurd (cc (ap (λ l. byte l j) (fit.none e), k))

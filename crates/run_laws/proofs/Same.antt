@@ -13,13 +13,13 @@ use Rattle.machine_model.specs.Run.{flushes, fetches, says_all_stopped}
 use Rattle.run_laws.proofs.Placed.{Placed, steps, Stood, has_entry}
 use Rattle.walk_laws.specs.WalkLoads.{Found}
 use Rattle.run_laws.proofs.Kept.{held_at, has_bytes, drawn, stored_bytes, handed_word, flushed_waiting}
-use Rattle.turn_pieces.specs.Folds.{held_next, some_bytes, drawn_next, stored_next, handed_next, is_waiting, flushed_next}
+use Rattle.turn_pieces.specs.Folds.{known_word_next, are_some, drawn_next, stored_next, handed_on_next, is_waiting, flushed_all_next}
 use Rattle.run_laws.proofs.Fits.{Posted, Answered, AskedFor}
 use Rattle.turn_pieces.specs.Folds.{IsUncount}
 use Rattle.run_laws.proofs.Pieces.{Said}
 use Rattle.turn_pieces.specs.Log.{made, did, Log, steps_of, before, AtLast, HasStood}
 use Rattle.run_laws.proofs.Placed.{with_event, placed_of}
-use Rattle.turn_pieces.specs.Kept.{held, ends_call, places, bytes, handed, waits_next, waits, flushed}
+use Rattle.turn_pieces.specs.Kept.{known_word, ends_call, places, bytes, handed_on, still_waiting_next, is_still_waiting, has_flushed_all}
 use Rattle.turn_pieces.specs.Requests.{HasPosted, HasAnswered, HasAsked}
 
 -- steps
@@ -85,11 +85,11 @@ or_assoc false y z = refl
 -- what was loaded in section
 with_held : (at : ℕ) (e : Event) (r : List Placed) → held_at at (with_event e r) ≡ (if is_some (entry_stored e) then None else held_at at r)
 with_held at e [] = none_test (is_some (entry_stored e)) None
-with_held at e (t ∷ r) = either_test (is_some (entry_stored e)) (has_entry t.events) None (held_next at (name_of t.step.word) t.step.op t.step.word t.step.answer (held_at at r))
+with_held at e (t ∷ r) = either_test (is_some (entry_stored e)) (has_entry t.events) None (known_word_next at (name_of t.step.word) t.step.op t.step.word t.step.answer (held_at at r))
 
-pub same_held : (at : ℕ) (l : Log) → held_at at (placed_of l) ≡ held at l
+pub same_held : (at : ℕ) (l : Log) → held_at at (placed_of l) ≡ known_word at l
 same_held at [] = refl
-same_held at (made s ∷ l) = ap (held_next at (name_of s.word) s.op s.word s.answer) (same_held at l)
+same_held at (made s ∷ l) = ap (known_word_next at (name_of s.word) s.op s.word s.answer) (same_held at l)
 same_held at (did e ∷ l) = with_held at e (placed_of l) ∙ ap (λ k. if is_some (entry_stored e) then None else k) (same_held at l)
 
 -- places and bytes
@@ -100,7 +100,7 @@ call_test false false z k d = refl
 
 with_drawn : (e : Event) (r : List Placed) → drawn (with_event e r) ≡ (if ends_call e then [] else drawn r)
 with_drawn e [] = none_test (ends_call e) []
-with_drawn e (t ∷ r) = call_test (is_some (did_of e).reason) (some_bytes (did_of e).bytes) (has_bytes t.events) [] (drawn_next (name_of t.step.word) t.step.op t.step.answer (drawn r))
+with_drawn e (t ∷ r) = call_test (is_some (did_of e).reason) (are_some (did_of e).bytes) (has_bytes t.events) [] (drawn_next (name_of t.step.word) t.step.op t.step.answer (drawn r))
 
 pub same_drawn : (l : Log) → drawn (placed_of l) ≡ places l
 same_drawn [] = refl
@@ -109,7 +109,7 @@ same_drawn (did e ∷ l) = with_drawn e (placed_of l) ∙ ap (λ k. if ends_call
 
 with_bytes : (e : Event) (r : List Placed) → stored_bytes (with_event e r) ≡ (if ends_call e then [] else stored_bytes r)
 with_bytes e [] = none_test (ends_call e) []
-with_bytes e (t ∷ r) = call_test (is_some (did_of e).reason) (some_bytes (did_of e).bytes) (has_bytes t.events) []
+with_bytes e (t ∷ r) = call_test (is_some (did_of e).reason) (are_some (did_of e).bytes) (has_bytes t.events) []
     (stored_next (name_of t.step.word) t.step.op t.step.arg (drawn r) (stored_bytes r))
 
 pub same_bytes : (l : Log) → stored_bytes (placed_of l) ≡ bytes l
@@ -122,23 +122,23 @@ with_handed : (a : ℕ) (w : Word) (e : Event) (r : List Placed) → handed_word
 with_handed a w e [] = refl
 with_handed a w e (t ∷ r) = refl
 
-pub same_handed : (a : ℕ) (w : Word) (l : Log) → handed_word a w (placed_of l) ≡ handed a w l
+pub same_handed : (a : ℕ) (w : Word) (l : Log) → handed_word a w (placed_of l) ≡ handed_on a w l
 same_handed a w [] = refl
-same_handed a w (made s ∷ l) = ap (handed_next a w (name_of s.word) s.op s.answer) (same_handed a w l)
+same_handed a w (made s ∷ l) = ap (handed_on_next a w (name_of s.word) s.op s.answer) (same_handed a w l)
 same_handed a w (did e ∷ l) = with_handed a w e (placed_of l) ∙ same_handed a w l
 
 -- flushes of a hart that waits
 abbrev waits_top : ℕ → List Placed → Bool
 waits_top a [] = false
-waits_top a (t ∷ r) = waits_next a (name_of t.step.word) t.step.op (is_waiting (taking a (steps r)))
+waits_top a (t ∷ r) = still_waiting_next a (name_of t.step.word) t.step.op (is_waiting (taking a (steps r)))
 
 with_waits : (a : ℕ) (e : Event) (r : List Placed) → waits_top a (with_event e r) ≡ waits_top a r
 with_waits a e [] = refl
 with_waits a e (t ∷ r) = refl
 
-same_waits : (a : ℕ) (l : Log) → waits_top a (placed_of l) ≡ waits a l
+same_waits : (a : ℕ) (l : Log) → waits_top a (placed_of l) ≡ is_still_waiting a l
 same_waits a [] = refl
-same_waits a (made s ∷ l) = ap (λ r. waits_next a (name_of s.word) s.op (is_waiting (taking a r))) (same_steps l)
+same_waits a (made s ∷ l) = ap (λ r. still_waiting_next a (name_of s.word) s.op (is_waiting (taking a r))) (same_steps l)
 same_waits a (did e ∷ l) = with_waits a e (placed_of l) ∙ same_waits a l
 
 flush_bools : (b w f m : Bool) → (b || (w && (f || m))) ≡ ((b || (w && m)) || (w && f))
@@ -154,7 +154,7 @@ flush_own true b w f m = refl
 flush_own false b w f m = flush_bools b w f m
 
 flush_step : (a : ℕ) (w : Word) (op : WordOp) (wait f m b : Bool)
-    → flushed_next a w op (wait && (f || m)) b ≡ (flushed_next a w op (wait && m) b || (waits_next a w op wait && f))
+    → flushed_all_next a w op (wait && (f || m)) b ≡ (flushed_all_next a w op (wait && m) b || (still_waiting_next a w op wait && f))
 flush_step a (Hsm t) Store wait f m b = flush_own (a == t) b wait f m
 flush_step a w op wait f m b = flush_bools b wait f m
 
@@ -166,9 +166,9 @@ and_no : (x : Bool) → (x && false) ≡ false
 and_no true = refl
 and_no false = refl
 
-pub same_flushed : (a : ℕ) (l : Log) → flushed_waiting a (placed_of l) ≡ flushed a l
+pub same_flushed : (a : ℕ) (l : Log) → flushed_waiting a (placed_of l) ≡ has_flushed_all a l
 same_flushed a [] = refl
-same_flushed a (made s ∷ l) = λ i. flushed_next a (name_of s.word) s.op (and_no (is_waiting (taking a (steps (placed_of l)))) i) (same_flushed a l i)
+same_flushed a (made s ∷ l) = λ i. flushed_all_next a (name_of s.word) s.op (and_no (is_waiting (taking a (steps (placed_of l)))) i) (same_flushed a l i)
 same_flushed a (did e ∷ l) = with_flushed a e (placed_of l) ∙ (λ i. same_flushed a l i || (same_waits a l i && flushes a Full e))
 
 -- requests

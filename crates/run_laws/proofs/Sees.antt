@@ -22,7 +22,7 @@ use Rattle.machine_model.specs.State.{Setup, memory}
 use Rattle.machine_model.specs.Run.{state_of}
 use Rattle.run_laws.proofs.Placed.{Placed, placed, steps, run_of, mine, has_entry}
 use Rattle.run_laws.proofs.Kept.{held_at}
-use Rattle.turn_pieces.specs.Folds.{held_next}
+use Rattle.turn_pieces.specs.Folds.{known_word_next}
 use Rattle.turn_pieces.specs.Shared.{IsShared}
 use Rattle.run_laws.proofs.Beginning.{IsBegun, history}
 use Rattle.run_laws.proofs.Weave.{by_mine}
@@ -112,7 +112,7 @@ split_load : (x v n : ℕ) (w : Word) (answer : ℕ) (k : Option ℕ) → Plain 
 split_load x v n w answer k p = by_test x n (λ b. (if b then Some answer else k) ≡ Some v → Split x v n w Load answer k)
     (λ e h. inr (refl, e, cc, p)) (λ _ h. inl (p, h))
 
-split : (x v n : ℕ) (w : Word) (op : WordOp) (answer : ℕ) (k : Option ℕ) → held_next x w op n answer k ≡ Some v → Split x v n w op answer k
+split : (x v n : ℕ) (w : Word) (op : WordOp) (answer : ℕ) (k : Option ℕ) → known_word_next x w op n answer k ≡ Some v → Split x v n w op answer k
 split x v n Pend Load answer k h = inl (tt, h)
 split x v n Pend op answer k h = absurd (cc)
 split x v n (Run b) op answer k h = absurd (cc)
@@ -147,7 +147,7 @@ module _ (u : Setup) (boot : List Step) (runs : ℕ → Bool) (begun : IsBegun u
       → is_claimant (t.step ∷ steps (mine t.step.actor ts)) ≡ true → (x v : ℕ) → IsShared (name_of x) → held_at x (placed t.step es ∷ mine t.step.actor ts) ≡ Some v
       → IsInSection u.layout t.step.actor (t.step ∷ steps (mine t.step.actor ts)) × (mem u ts x ≡ v)
   held_here t ts h d ne ih es q c x v sx k = go (split x v t.step.word (name_of t.step.word) t.step.op t.step.answer (held_at x (mine t.step.actor ts))
-      (sym (ap (λ (b : Bool). if b then None else held_next x (name_of t.step.word) t.step.op t.step.word t.step.answer (held_at x (mine t.step.actor ts))) (has_none es q)) ∙ k))
+      (sym (ap (λ (b : Bool). if b then None else known_word_next x (name_of t.step.word) t.step.op t.step.word t.step.answer (held_at x (mine t.step.actor ts))) (has_none es q)) ∙ k))
     where
       own_is : own_steps t.step.actor (history boot ts) ≡ steps (mine t.step.actor ts)
       own_is = own_history boot t.step.actor ts (begun.alone t.step.actor ne)
@@ -194,7 +194,7 @@ module _ (u : Setup) (boot : List Step) (runs : ℕ → Bool) (begun : IsBegun u
       quiet q = let i = held_here t ts h d ne ih t.events q c x v sx k in (i.0, mem_quiet u t.events (run_of ts) x q ∙ i.1)
 
       never : has_entry t.events ≡ true → IsInSection u.layout t.step.actor (t.step ∷ steps (mine t.step.actor ts)) × (mem u (t ∷ ts) x ≡ v)
-      never b = absurd (cc (ap (λ (b : Bool). if b then None else held_next x (name_of t.step.word) t.step.op t.step.word t.step.answer (held_at x (mine t.step.actor ts))) b, k))
+      never b = absurd (cc (ap (λ (b : Bool). if b then None else known_word_next x (name_of t.step.word) t.step.op t.step.word t.step.answer (held_at x (mine t.step.actor ts))) b, k))
 
       go : (es : List Event) → t.events ≡ es → Way u (mine t.step.actor ts) t.step.actor t.step.word (name_of t.step.word) t.step.op t.step.arg t.step.answer es
           → IsInSection u.layout t.step.actor (t.step ∷ steps (mine t.step.actor ts)) × (mem u (t ∷ ts) x ≡ v)

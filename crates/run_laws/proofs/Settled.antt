@@ -16,7 +16,7 @@ use Rattle.machine_model.specs.State.{Setup}
 use Rattle.machine_model.specs.Run.{leaves, says_all_stopped}
 use Rattle.machine_model.proofs.Uniform.{Passing, has_more}
 use Rattle.run_laws.proofs.Placed.{Placed, steps, run_of, mine}
-use Rattle.turn_pieces.specs.Folds.{was_last, last_next}
+use Rattle.turn_pieces.specs.Folds.{was_last, was_last_next}
 use Rattle.run_laws.proofs.Accounts.{AreQuiet, Accounts, calm, writes, writes_half, writes_rest, draws, fills, draws_none, draws_more, fills_more, fills_last, ends, takes, gives_start, gives_opaque, lets, begins_here, leaves_here}
 use Rattle.run_laws.proofs.Pieces.{IsTurns, none, turn, looks, IsIdle, IsActing, Said, Told}
 use Rattle.turn_pieces.specs.Folds.{IsUncount}
@@ -79,11 +79,11 @@ said_run u boot a alone nl (t ∷ ts) d k s = elim (cases_eq a t.step.actor) [ i
         go (inr y) (inr p) = has_more leaves says_all_stopped t.events (run_of ts) (passing p.0) (ih p.1 y.1)
 
 was_look : (a : ℕ) (s : Step) (r : List Step) → name_of s.word ≡ Stop → s.op ≡ Load → was_last a (s ∷ r) ≡ was_last a r
-was_look a s r w o = λ i. last_next a (w i) (o i) s.arg s.answer (was_last a r)
+was_look a s r w o = λ i. was_last_next a (w i) (o i) s.arg s.answer (was_last a r)
 
 was_idle : (a : ℕ) (r : List Placed) → IsIdle r → was_last a (steps r) ≡ false
 was_idle a [] k = refl
-was_idle a (t ∷ r) k = (λ i. last_next a (k.0 i) (k.1 i) t.step.arg t.step.answer (was_last a (steps r))) ∙ was_idle a r k.3
+was_idle a (t ∷ r) k = (λ i. was_last_next a (k.0 i) (k.1 i) t.step.arg t.step.answer (was_last a (steps r))) ∙ was_idle a r k.3
 
 said_turns : {u : Setup} {a : ℕ} {r : List Placed} → IsTurns u a r → was_last a (steps r) ≡ true → Said r
 said_turns none e = absurd (cc (e))

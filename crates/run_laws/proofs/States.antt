@@ -15,7 +15,7 @@ use Rattle.machine_model.proofs.Uniform.{run_length}
 use Rattle.rv64_exec.specs.Code.{Code}
 use Rattle.rv64_priv.specs.declared.state.Kind.{Kind}
 use Rattle.run_laws.proofs.Accounts.{AreQuiet}
-use Rattle.turn_pieces.specs.Doing.{begins}
+use Rattle.turn_pieces.specs.Doing.{is_begin}
 
 -- entries
 pub entries_none : (e : Event) (s : State) → (did_of e).entry ≡ None → (state_after e s).entries ≡ s.entries
@@ -47,7 +47,7 @@ set_other hs a h t e = get_or-set_other hs a h t (new_hart Halted 0) (λ k. fals
 
 -- a start in its own event begins a hart, an Exec may stop it; any other event keeps its mode
 abbrev pub mode_next : Event → Mode → Mode
-mode_next e m = if begins e then Started else (if (did_of e).stops then Halted else m)
+mode_next e m = if is_begin e then Started else (if (did_of e).stops then Halted else m)
 
 fetched_mode : (code : Code) (t : Hart) (s : Spot) → (fetched code t s).mode ≡ t.mode
 fetched_mode code t (AtRam pa) = refl
@@ -88,14 +88,14 @@ mode_changed e hs h lt = go (has_part e) (actor_of e == h) refl refl
         (ap (λ t. t.mode) (get_or-set_same hs h (part_next e (nth hs h)) (new_hart Halted 0) lt) ∙ part_mode e (nth hs h))
     go true false j k = ap (λ t. t.mode) (set_other hs (actor_of e) h (part_next e (nth hs (actor_of e))) k)
 
-mode_quiet_next : (e : Event) (m : Mode) → (did_of e).stops ≡ false → begins e ≡ false → mode_next e m ≡ m
+mode_quiet_next : (e : Event) (m : Mode) → (did_of e).stops ≡ false → is_begin e ≡ false → mode_next e m ≡ m
 mode_quiet_next e m s b = (λ i. if b i then Started else (if s i then Halted else m))
 
 same_if : (b : Bool) (x y : Mode) → x ≡ y → (if b then x else y) ≡ y
 same_if true x y e = e
 same_if false x y e = refl
 
-pub mode_none : (e : Event) (s : State) (h : ℕ) → h < length s.harts → (did_of e).starts ≡ None → (did_of e).stops ≡ false → begins e ≡ false → mode_of (state_after e s) h ≡ mode_of s h
+pub mode_none : (e : Event) (s : State) (h : ℕ) → h < length s.harts → (did_of e).starts ≡ None → (did_of e).stops ≡ false → is_begin e ≡ false → mode_of (state_after e s) h ≡ mode_of s h
 mode_none e s h lt n st b =
     ap (λ o. (nth (with_start (changed e s.harts) o) h).mode) n
     ∙ (mode_changed e s.harts h lt ∙ same_if (actor_of e == h) (mode_next e (mode_of s h)) (mode_of s h) (mode_quiet_next e (mode_of s h) st b))

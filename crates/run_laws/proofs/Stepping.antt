@@ -20,7 +20,7 @@ use Rattle.step_laws.proofs.Woven.{woven as steps_woven, history_tail as tail_of
 use Rattle.step_laws.proofs.Along.{permits_loader}
 use Rattle.step_laws.proofs.Apart.{section_law as apart_law}
 use Rattle.step_laws.proofs.Halting.{states, stop_law as ended_law, settled_law}
-use Rattle.turn_pieces.specs.Folds.{is_waiting, was_last, last_next}
+use Rattle.turn_pieces.specs.Folds.{is_waiting, was_last, was_last_next}
 use Rattle.turn_pieces.specs.Folds.{IsUncount}
 use Rattle.run_laws.proofs.Used.{SectionLaw, StopLaw, IsOpening, IsHalt, NoneSince}
 
@@ -68,7 +68,7 @@ hsm_value : (layout : Layout) (h : List Step) (t : ℕ) → layout.harts ≤ 8 �
 hsm_value layout h t small lt = held_value (Hsm t) h (omega (arith, small, lt))
 
 -- a step by which the last one was taken
-last_split : (a : ℕ) (w : Word) (op : WordOp) (arg answer : ℕ) (b : Bool) → last_next a w op arg answer b ≡ true → (b ≡ true) ⊎ ((w ≡ Live) × (op ≡ Add) × (arg ≡ 2 ^ 64 - 1) × (answer ≡ 1))
+last_split : (a : ℕ) (w : Word) (op : WordOp) (arg answer : ℕ) (b : Bool) → was_last_next a w op arg answer b ≡ true → (b ≡ true) ⊎ ((w ≡ Live) × (op ≡ Add) × (arg ≡ 2 ^ 64 - 1) × (answer ≡ 1))
 last_split a (Hsm t) Store arg answer b e = by_test a t (λ v. (if v then false else b) ≡ true → (b ≡ true) ⊎ ((Hsm t ≡ Live) × (Store ≡ Add) × (arg ≡ 2 ^ 64 - 1) × (answer ≡ 1)))
     (λ _ e. absurd (true≢false (sym e))) (λ _ e. inl e) e
 last_split a Live Add arg answer b e = let p = and_parts (arg == 2 ^ 64 - 1) (answer == 1) e in inr (refl, refl, eqb-true arg (2 ^ 64 - 1) p.0, eqb-true answer 1 p.1)
@@ -100,7 +100,7 @@ all_one layout runs h a k i lt e = let d = was_taken a h e in
     ap (word_value (Hsm k)) d.whole ∙ ended_law layout runs d.later d.before d.at k (subst (IsHistory layout runs) d.whole i) d.take d.one lt
 
 -- who has stopped and not yet said so wasn't the last since
-owes_next : (a : ℕ) (w : Word) (op : WordOp) (arg answer : ℕ) (o b : Bool) → (o ≡ true → b ≡ false) → is_owing_next a w op arg answer o ≡ true → last_next a w op arg answer b ≡ false
+owes_next : (a : ℕ) (w : Word) (op : WordOp) (arg answer : ℕ) (o b : Bool) → (o ≡ true → b ≡ false) → is_owing_next a w op arg answer o ≡ true → was_last_next a w op arg answer b ≡ false
 owes_next a (Hsm h) Store arg answer o b f e = by_test a h (λ v. (if v then false else b) ≡ false) (λ _. refl)
     (λ ne. f (sym (ap (λ (t : Bool). if t then arg == 1 else o) (ne_eqb h a (λ z. ne (sym z)))) ∙ e))
 owes_next a Live Add arg answer o b f e = absurd (true≢false (sym e))
@@ -116,7 +116,7 @@ halt_runs m k = absurd k
 
 -- where all are stopped that stays so
 lasting : {layout : Layout} {c : ℕ} {runs : Bool} {r : List Step} {w : Word} {op : WordOp} {arg : ℕ} (answer : ℕ) → ActorMay layout c runs r w op arg → ((c < layout.harts) → is_running c runs r ≡ true → ⊥) → (taking c r ≢ idle → ⊥)
-    → ((k : ℕ) → opens (opening r) k ≡ true → ⊥) → (is_owing c r ≡ true → ⊥) → last_next c w op arg answer true ≡ true
+    → ((k : ℕ) → opens (opening r) k ≡ true → ⊥) → (is_owing c r ≡ true → ⊥) → was_last_next c w op arg answer true ≡ true
 lasting answer (take_start p q e) f g h o = absurd (g (λ z. cc (p, z)))
 lasting answer (stop p q e) f g h o = absurd (f p q)
 lasting answer (end_start {h = k} p) f g h o = absurd (h k (ap (λ x. opens x k) p ∙ eq-eqb k k refl))
@@ -171,7 +171,7 @@ module _ (layout : Layout) (runs : ℕ → Bool) where
             where
               mine : a ≡ s.actor → was_last a (s ∷ own_steps a h) ≡ true
               mine is = subst (λ c. was_last c (s ∷ own_steps c h) ≡ true) (sym is)
-                  (ap (last_next s.actor (name_of s.word) s.op s.arg s.answer) was ∙ lasting s.answer m none_runs none_takes none_opens none_owes)
+                  (ap (was_last_next s.actor (name_of s.word) s.op s.arg s.answer) was ∙ lasting s.answer m none_runs none_takes none_opens none_owes)
                 where
                   lt : s.actor < layout.harts
                   lt = subst (λ c. c < layout.harts) is k.1
@@ -223,7 +223,7 @@ module _ (layout : Layout) (runs : ℕ → Bool) where
           go (by_actor who f m) = (
             s.actor,
             (st.owes s.actor (ap (is_owing s.actor) (acts_of h s.actor ne) ∙ owes m take.0 take.1 take.2)).0,
-            ap (was_last s.actor) (own_here s h s.actor refl) ∙ (λ j. last_next s.actor (take.0 j) (take.1 j) (take.2 j) (one j) (was_last s.actor (own_steps s.actor h))),
+            ap (was_last s.actor) (own_here s h s.actor refl) ∙ (λ j. was_last_next s.actor (take.0 j) (take.1 j) (take.2 j) (one j) (was_last s.actor (own_steps s.actor h))),
             inl (refl, subst (λ w. IsUncount w s.op s.arg) (sym take.0) (subst (λ o. IsUncount Live o s.arg) (sym take.1) take.2), one),
           )
 

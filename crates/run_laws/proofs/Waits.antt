@@ -23,7 +23,7 @@ use Rattle.machine_model.specs.Run.{state_of, starts_hart, is_target, flushes}
 use Rattle.machine_model.proofs.Uniform.{Passing, has_more, run_length}
 use Rattle.run_laws.proofs.Placed.{Placed, steps, run_of, mine}
 use Rattle.run_laws.proofs.Kept.{handed_word, flushed_waiting}
-use Rattle.turn_pieces.specs.Folds.{handed_next, is_waiting, flushed_next}
+use Rattle.turn_pieces.specs.Folds.{handed_on_next, is_waiting, flushed_all_next}
 use Rattle.run_laws.proofs.Fits.{runs_first}
 use Rattle.run_laws.proofs.Beginning.{IsBegun, history}
 use Rattle.run_laws.proofs.Pieces.{Told, IsIdleStep}
@@ -38,7 +38,7 @@ OwnStore c (Hsm t) Store = c ≡ t
 OwnStore c _ _ = ⊥
 
 -- what is known behind a step was known before, or the step loaded it
-handed_split : (c : ℕ) (w x : Word) (op : WordOp) (answer v : ℕ) (k : Option ℕ) → handed_next c w x op answer k ≡ Some v
+handed_split : (c : ℕ) (w x : Word) (op : WordOp) (answer v : ℕ) (k : Option ℕ) → handed_on_next c w x op answer k ≡ Some v
     → ((k ≡ Some v) × (OwnStore c x op → ⊥)) ⊎ ((op ≡ Load) × (x ≡ w) × (answer ≡ v))
 handed_split c w (Hsm t) Store answer v k h = by_test c t (λ b. (if b then None else k) ≡ Some v → ((k ≡ Some v) × (c ≡ t → ⊥)) ⊎ ((Store ≡ Load) × (Hsm t ≡ w) × (answer ≡ v)))
     (λ e h. absurd (cc (h))) (λ ne h. inl (h, ne)) h
@@ -53,7 +53,7 @@ handed_split c w x Load answer v k h = go (same w x) refl h
     go false e h = inl (h, no_store x)
 handed_split c w x op answer v k h = inl (h, λ s. s)
 
-flushed_split : (c : ℕ) (x : Word) (op : WordOp) (made b : Bool) → flushed_next c x op made b ≡ true → ((b ≡ true) ⊎ (made ≡ true)) × (OwnStore c x op → ⊥)
+flushed_split : (c : ℕ) (x : Word) (op : WordOp) (made b : Bool) → flushed_all_next c x op made b ≡ true → ((b ≡ true) ⊎ (made ≡ true)) × (OwnStore c x op → ⊥)
 flushed_split c (Hsm t) Store made b h = by_test c t (λ z. (if z then false else b || made) ≡ true → ((b ≡ true) ⊎ (made ≡ true)) × (c ≡ t → ⊥))
     (λ e h. absurd (cc (h))) (λ ne h. (either_true b made h, ne)) h
   where

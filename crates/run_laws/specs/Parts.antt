@@ -27,7 +27,7 @@ use Rattle.machine_model.specs.Walks.{need}
 use Rattle.machine_model.specs.Perform.{surroundings}
 use Rattle.machine_model.specs.Lawful.{Flushing, flushing, IsRun, IsAllowed}
 use Rattle.turn_pieces.specs.Log.{Log, events_of}
-use Rattle.turn_pieces.specs.Kept.{part}
+use Rattle.turn_pieces.specs.Kept.{own_part}
 use Rattle.run_laws.specs.Read.{IsRead}
 
 -- the run as it was at the hart's last Fetch
@@ -53,7 +53,7 @@ SectionsAreApart = (layout : Layout) (words : List ℕ) (records : List Record) 
 -- a hart's registers and count at the end, and whether it runs, are those that its own log leaves
 abbrev pub HartsAreTheirLogs : Type 0
 HartsAreTheirLogs = (u : Setup) (steps : List Step) (records : List Record) (logs : ℕ → Log) (run : List Event) → IsInLimits u.layout → IsRead steps records logs run
-    → (k : ℕ) (r : Record) → get_elem? records k ≡ some r → r.actor < u.layout.harts → own (hart (state_of u run) r.actor) ≡ part u r.actor (logs r.actor)
+    → (k : ℕ) (r : Record) → get_elem? records k ≡ some r → r.actor < u.layout.harts → own (hart (state_of u run) r.actor) ≡ own_part u r.actor (logs r.actor)
 
 -- what the script came to is what the monitor's own log says, in its order
 abbrev pub ScriptIsTheMonitors : Type 0

@@ -23,7 +23,7 @@ use Rattle.machine_model.specs.Walks.{need_held}
 use Rattle.machine_model.specs.Lawful.{flushing}
 use Rattle.walk_laws.specs.WalkLoads.{reads_of}
 use Rattle.turn_pieces.specs.Log.{made, did, Log}
-use Rattle.turn_pieces.specs.Kept.{part}
+use Rattle.turn_pieces.specs.Kept.{own_part}
 use Rattle.turn_pieces.specs.Doing.{IsQuiet}
 use Rattle.turn_pieces.specs.Right.{AreFenced}
 use Rattle.turn_pieces.specs.Grows.{Grows, stays, makes, does, IsClosed, none, turn, IsChain, whole}
@@ -277,8 +277,8 @@ start_turn_grows = makes (step 0 8 Store 0 0) (makes (step 0 29 Store 2 0) (make
         record {
           holds = refl;
           shown = tt;
-          flushed = λ w s. subst (AreFenced 0 start_called) (λ i. flushing (record w { layout = sym s.layout i; modes = λ t. sym (s.here.1 1 (omega arith) refl (λ e. absurd (cc (e)))) i }) 0 (part two_harts 0 start_called).arch (need_held (part two_harts 0 start_called).arch (part two_harts 0 start_called).held)) tt;
-          right = λ w s. λ i. perform (record w { layout = sym s.layout i; modes = λ t. sym (s.here.1 1 (omega arith) refl (λ e. absurd (cc (e)))) i }) 0 (part two_harts 0 start_called).arch Walked.PageFault Walked.PageFault (need_held (part two_harts 0 start_called).arch (part two_harts 0 start_called).held);
+          flushed = λ w s. subst (AreFenced 0 start_called) (λ i. flushing (record w { layout = sym s.layout i; modes = λ t. sym (s.here.1 1 (omega arith) refl (λ e. absurd (cc (e)))) i }) 0 (own_part two_harts 0 start_called).arch (need_held (own_part two_harts 0 start_called).arch (own_part two_harts 0 start_called).held)) tt;
+          right = λ w s. λ i. perform (record w { layout = sym s.layout i; modes = λ t. sym (s.here.1 1 (omega arith) refl (λ e. absurd (cc (e)))) i }) 0 (own_part two_harts 0 start_called).arch Walked.PageFault Walked.PageFault (need_held (own_part two_harts 0 start_called).arch (own_part two_harts 0 start_called).held);
         },
       );
       pays = record { at = 0x80000018; opaque = 0; pays = record { does = record { entry_is = refl; bytes_are = refl; reason_is = refl; starts_is = refl; stops_is = refl }; begins_not = refl } };
@@ -402,7 +402,7 @@ add_turn_grows = makes (step 0 8 Store 0 0) (does (added 0 (0)) (stays)
           holds = refl;
           shown = record { first_page = record { finds = λ x. 0; is_end = refl; stood = tt }; second_page = λ e. absurd (true≢false (sym e)) };
           flushed = λ w s. tt;
-          right = λ w s. ap (λ x. perform (record w { memory = λ k. x }) 0 (part two_harts 0 add_stepped).arch (Walked.Leaf 0xcf 0x80000000 0) Walked.PageFault (need_held (part two_harts 0 add_stepped).arch (part two_harts 0 add_stepped).held)) (sym (s.here.0 tt (λ e. absurd (cc (e)))));
+          right = λ w s. ap (λ x. perform (record w { memory = λ k. x }) 0 (own_part two_harts 0 add_stepped).arch (Walked.Leaf 0xcf 0x80000000 0) Walked.PageFault (need_held (own_part two_harts 0 add_stepped).arch (own_part two_harts 0 add_stepped).held)) (sym (s.here.0 tt (λ e. absurd (cc (e)))));
         },
       );
       pays = record { does = record { entry_is = refl; bytes_are = refl; reason_is = refl; starts_is = refl; stops_is = refl }; begins_not = refl };
@@ -600,7 +600,7 @@ second_turn_grows = makes (step 1 24 Store 0 0) (does (added 1 (1)) (stays)
           holds = refl;
           shown = record { first_page = record { finds = λ x. 0; is_end = refl; stood = tt }; second_page = λ e. absurd (true≢false (sym e)) };
           flushed = λ w s. tt;
-          right = λ w s. ap (λ x. perform (record w { memory = λ k. x }) 1 (part two_harts 1 second_stepped).arch (Walked.Leaf 0xcf 0x80000000 0) Walked.PageFault (need_held (part two_harts 1 second_stepped).arch (part two_harts 1 second_stepped).held)) (sym (s.here.0 tt (λ e. absurd (cc (e)))));
+          right = λ w s. ap (λ x. perform (record w { memory = λ k. x }) 1 (own_part two_harts 1 second_stepped).arch (Walked.Leaf 0xcf 0x80000000 0) Walked.PageFault (need_held (own_part two_harts 1 second_stepped).arch (own_part two_harts 1 second_stepped).held)) (sym (s.here.0 tt (λ e. absurd (cc (e)))));
         },
       );
       pays = record { does = record { entry_is = refl; bytes_are = refl; reason_is = refl; starts_is = refl; stops_is = refl }; begins_not = refl };

@@ -12,13 +12,13 @@ use Rattle.machine_model.specs.Memory.{write_of}
 use Rattle.machine_model.specs.Event.{Event, Start as Begin, actor_of}
 use Rattle.machine_model.specs.State.{Setup}
 use Rattle.step_laws.specs.Words.{console_places}
-use Rattle.turn_pieces.specs.Doing.{Fills, last_start, first_drawn}
+use Rattle.turn_pieces.specs.Doing.{IsCutShort, last_start, first_drawn}
 use Rattle.turn_pieces.specs.Folds.{drawn_next, unstored_next}
 use Rattle.turn_pieces.specs.Requests.{Acks}
 use Rattle.turn_pieces.specs.Draws.{may_draw, Drawing}
 use Rattle.machine_model.specs.ReasonWords.{reason_word}
 use Rattle.turn_pieces.specs.Log.{made, did, Log, steps_of, events_of}
-use Rattle.turn_pieces.specs.Kept.{part, places, bytes}
+use Rattle.turn_pieces.specs.Kept.{own_part, places, bytes}
 use Rattle.turn_pieces.specs.Owed.{Owed, nothing, paid, writes, stores, joins, draws, fills, gives, takes, begun, left, owes_store, owes_own, owed, unstored, books, May, MayMake, MayBehind, Rests, Pays, PaysFor, HasPaid}
 use Rattle.turn_pieces.specs.Right.{IsFit}
 use Rattle.turn_pieces.specs.Grows.{Grows, stays, makes, does, IsClear}
@@ -30,7 +30,7 @@ pays_for u a l o e is x = subst (λ o. PaysFor a (books l) o e) (sym is) x
 
 module _ (u : Setup) (a : ℕ) (l : Log) where
   -- one step and its event
-  acts : (s : Step) (o : Owed) (e : Event) → MayMake u a l s → owed (made s ∷ l) ≡ o → actor_of e ≡ a → IsFit u a (made s ∷ l) e (part u a (made s ∷ l)) → PaysFor a (books (made s ∷ l)) o e
+  acts : (s : Step) (o : Owed) (e : Event) → MayMake u a l s → owed (made s ∷ l) ≡ o → actor_of e ≡ a → IsFit u a (made s ∷ l) e (own_part u a (made s ∷ l)) → PaysFor a (books (made s ∷ l)) o e
       → Grows u a l (did e ∷ made s ∷ l)
   acts s o e m is own fit x = does e (makes s stays m) (record { own = own; fit = fit; pays = pays_for u a (made s ∷ l) o e is x })
 
@@ -50,19 +50,19 @@ module _ (u : Setup) (a : ℕ) (l : Log) where
         go o c = absurd c
 
     -- a store of a word of RAM
-    pub store_word : (s : Step) (i : ℕ) (e : Event) → name_of s.word ≡ Ram i → s.op ≡ Store → actor_of e ≡ a → IsFit u a (made s ∷ l) e (part u a (made s ∷ l))
+    pub store_word : (s : Step) (i : ℕ) (e : Event) → name_of s.word ≡ Ram i → s.op ≡ Store → actor_of e ≡ a → IsFit u a (made s ∷ l) e (own_part u a (made s ∷ l))
         → Pays e (Some (write_of s.word s.arg ∷ [])) [] None None false → Grows u a l (did e ∷ made s ∷ l)
     store_word s i e n o own fit x = acts s (stores s.word s.arg) e (free s (Ram i) Store n o tt tt tt) (owed_named l s (Ram i) Store n o ∙ store_owes s.word s.arg) own fit x
 
     -- an exchange of a word of RAM that wrote, as of a part of the word
-    pub exchange_word : (s : Step) (i old : ℕ) (e : Event) → name_of s.word ≡ Ram i → s.op ≡ Exchange old → old ≡ s.answer → actor_of e ≡ a → IsFit u a (made s ∷ l) e (part u a (made s ∷ l))
+    pub exchange_word : (s : Step) (i old : ℕ) (e : Event) → name_of s.word ≡ Ram i → s.op ≡ Exchange old → old ≡ s.answer → actor_of e ≡ a → IsFit u a (made s ∷ l) e (own_part u a (made s ∷ l))
         → Pays e (Some (write_of s.word (new_of (Exchange old) s.answer s.arg) ∷ [])) [] None None false → Grows u a l (did e ∷ made s ∷ l)
     exchange_word s i old e n o won own fit x = acts s (writes s.word (new_of (Exchange old) s.answer s.arg)) e (free s (Ram i) (Exchange old) n o tt tt tt)
         (owed_named l s (Ram i) (Exchange old) n o ∙ ap (λ b. if b then writes s.word (new_of (Exchange old) s.answer s.arg) else nothing) (eq-eqb old s.answer won)) own fit x
 
     -- a crossing store in section
     pub store_two : (s t : Step) (i j : ℕ) (e : Event) → name_of s.word ≡ Ram i → s.op ≡ Store → name_of t.word ≡ Ram j → t.op ≡ Store → s.word ≢ t.word
-        → IsInSection u.layout a (steps_of (made s ∷ l)) → actor_of e ≡ a → IsFit u a (made t ∷ made s ∷ l) e (part u a (made t ∷ made s ∷ l))
+        → IsInSection u.layout a (steps_of (made s ∷ l)) → actor_of e ≡ a → IsFit u a (made t ∷ made s ∷ l) e (own_part u a (made t ∷ made s ∷ l))
         → Pays e (Some (write_of s.word s.arg ∷ write_of t.word t.arg ∷ [])) [] None None false → Grows u a l (did e ∷ made t ∷ made s ∷ l)
     store_two s t i j e n o n' o' ne k own fit x =
         let first_owes : owed (made s ∷ l) ≡ stores s.word s.arg = owed_named l s (Ram i) Store n o ∙ store_owes s.word s.arg in
@@ -80,7 +80,7 @@ module _ (u : Setup) (a : ℕ) (l : Log) where
 
     -- a byte of the UART: its place is drawn, and its event stands there
     pub print_one : (s : Step) (byte : ℕ) (e : Event) → name_of s.word ≡ Cons → s.op ≡ Add → s.arg ≡ 1 → may_draw (steps_of l) ≡ true → s.answer < console_places → places l ≡ [] → unstored l ≡ None
-        → actor_of e ≡ a → IsFit u a (made s ∷ l) e (part u a (made s ∷ l)) → Pays e None (byte ∷ []) None None false → Grows u a l (did e ∷ made s ∷ l)
+        → actor_of e ≡ a → IsFit u a (made s ∷ l) e (own_part u a (made s ∷ l)) → Pays e None (byte ∷ []) None None false → Grows u a l (did e ∷ made s ∷ l)
     print_one s byte e n o one may lt none clean own fit x = acts s (draws s.answer) e (free s Cons Add n o one tt may) (draw_owes s n o lt) own fit
         (record { byte = byte; pays = x; alone = places_named s n o ∙ ap (λ ds. s.answer ∷ ds) none; none = byte_named s n o ∙ clean })
 
@@ -94,13 +94,13 @@ module _ (u : Setup) (a : ℕ) (l : Log) where
     draw_full s n o one may = makes s stays (free s Cons Add n o one tt may)
 
     -- STOP is exchanged
-    pub give_reason : (s : Step) (reason : Reason) (e : Event) → name_of s.word ≡ Stop → s.op ≡ Exchange 0 → s.arg ≡ reason_word reason → actor_of e ≡ a → IsFit u a (made s ∷ l) e (part u a (made s ∷ l))
-        → Pays e None (bytes (made s ∷ l)) (Some reason) None false → Fills (places (made s ∷ l)) (bytes (made s ∷ l)) → Grows u a l (did e ∷ made s ∷ l)
+    pub give_reason : (s : Step) (reason : Reason) (e : Event) → name_of s.word ≡ Stop → s.op ≡ Exchange 0 → s.arg ≡ reason_word reason → actor_of e ≡ a → IsFit u a (made s ∷ l) e (own_part u a (made s ∷ l))
+        → Pays e None (bytes (made s ∷ l)) (Some reason) None false → IsCutShort (places (made s ∷ l)) (bytes (made s ∷ l)) → Grows u a l (did e ∷ made s ∷ l)
     give_reason s reason e n o arg own fit x f = acts s (gives s.arg) e (free s Stop (Exchange 0) n o refl tt tt) (owed_named l s Stop (Exchange 0) n o) own fit
         (record { reason = reason; is = arg; pays = x; fills_it = f })
 
     -- a hart is taken, and given its start
-    pub take_hart : (s : Step) (t at opaque : ℕ) (e : Event) → name_of s.word ≡ Hsm t → s.op ≡ Exchange 1 → s.arg ≡ 3 → s.answer ≡ 1 → actor_of e ≡ a → IsFit u a (made s ∷ l) e (part u a (made s ∷ l))
+    pub take_hart : (s : Step) (t at opaque : ℕ) (e : Event) → name_of s.word ≡ Hsm t → s.op ≡ Exchange 1 → s.arg ≡ 3 → s.answer ≡ 1 → actor_of e ≡ a → IsFit u a (made s ∷ l) e (own_part u a (made s ∷ l))
         → Pays e None [] None (Some (record { target = t; at = at; opaque = opaque })) false → Grows u a l (did e ∷ made s ∷ l)
     take_hart s t at opaque e n o arg won own fit x = acts s (takes t) e (free s (Hsm t) (Exchange 1) n o (λ _. (refl, arg)) tt tt)
         (owed_named l s (Hsm t) (Exchange 1) n o ∙ ap (λ b. if b then takes t else nothing) (eq-eqb 1 s.answer (sym won))) own fit
@@ -121,11 +121,11 @@ module _ (u : Setup) (a : ℕ) (l : Log) where
     own_owes s arg n o is = owed_named l s (Hsm a) Store n o ∙ ap owes_own is
 
     -- the own hart begins, and stops
-    pub begin_here : (s : Step) (at opaque : ℕ) → name_of s.word ≡ Hsm a → s.op ≡ Store → s.arg ≡ 0 → IsFit u a (made s ∷ l) (Begin a at opaque) (part u a (made s ∷ l))
+    pub begin_here : (s : Step) (at opaque : ℕ) → name_of s.word ≡ Hsm a → s.op ≡ Store → s.arg ≡ 0 → IsFit u a (made s ∷ l) (Begin a at opaque) (own_part u a (made s ∷ l))
         → Grows u a l (did (Begin a at opaque) ∷ made s ∷ l)
     begin_here s at opaque n o arg fit = acts s begun (Begin a at opaque) (free s (Hsm a) Store n o (inr (refl, let lt = arg in omega (arith, lt))) tt tt) (own_owes s 0 n o arg) refl fit (at, opaque, refl)
 
-    pub leave_here : (s : Step) (e : Event) → name_of s.word ≡ Hsm a → s.op ≡ Store → s.arg ≡ 1 → actor_of e ≡ a → IsFit u a (made s ∷ l) e (part u a (made s ∷ l))
+    pub leave_here : (s : Step) (e : Event) → name_of s.word ≡ Hsm a → s.op ≡ Store → s.arg ≡ 1 → actor_of e ≡ a → IsFit u a (made s ∷ l) e (own_part u a (made s ∷ l))
         → Pays e None [] None None true → Grows u a l (did e ∷ made s ∷ l)
     leave_here s e n o arg own fit x = acts s left e (free s (Hsm a) Store n o (inr (refl, let lt = arg in omega (arith, lt))) tt tt) (own_owes s 1 n o arg) own fit x
 
@@ -148,5 +148,5 @@ module _ (u : Setup) (a : ℕ) (l : Log) where
 
   -- and the last one's store has the event of all
   pub print_all : (e : Event) (first : ℕ) → owed l ≡ fills → first_drawn (places l) ≡ Some first → first + length (places l) ≤ console_places
-      → actor_of e ≡ a → IsFit u a l e (part u a l) → Pays e None (bytes l) None None false → Grows u a l (did e ∷ l)
+      → actor_of e ≡ a → IsFit u a l e (own_part u a l) → Pays e None (bytes l) None None false → Grows u a l (did e ∷ l)
   print_all e first d is fit_in own fit x = does e stays (record { own = own; fit = fit; pays = pays_for u a l fills e d (record { pays = x; first = first; first_is = is; fits = fit_in }) })

@@ -7,7 +7,7 @@ use Rattle.step_laws.specs.declared.steps.WordOp.{WordOp}
 use Rattle.step_laws.specs.Map.{Word, Dirty, name_of}
 use Rattle.machine_model.specs.State.{Setup}
 use Rattle.turn_pieces.specs.Log.{made, did, Log}
-use Rattle.turn_pieces.specs.Kept.{part}
+use Rattle.turn_pieces.specs.Kept.{own_part}
 use Rattle.turn_pieces.specs.Marks.{own_pages, awaited_next, is_awaited}
 
 abbrev is_other : Word → Bool
@@ -28,7 +28,7 @@ pub unmarked : (u : Setup) (a page : ℕ) (l : Log) → is_unmarked l ≡ true �
 unmarked u a page [] e = refl
 unmarked u a page (made s ∷ l) e = let k = and_parts (is_other (name_of s.word)) (is_unmarked l) e in
     other_next page (name_of s.word) s.op s.arg (is_awaited u a page l) k.0 ∙ unmarked u a page l k.1
-unmarked u a page (did e ∷ l) k = either_way (list_any (λ given. given == page) (own_pages (part u a l) e)) (unmarked u a page l k)
+unmarked u a page (did e ∷ l) k = either_way (list_any (λ given. given == page) (own_pages (own_part u a l) e)) (unmarked u a page l k)
   where
     either_way : (b : Bool) → is_awaited u a page l ≡ false → (if b then false else is_awaited u a page l) ≡ false
     either_way true i = refl

@@ -22,7 +22,7 @@ use Rattle.walk_laws.specs.WalkLoads.{reads_of}
 use Rattle.turn_pieces.specs.Folds.{Unstored, unstored_next, drawn_next}
 use Rattle.turn_pieces.specs.Doing.{IsCalm, IsQuiet}
 use Rattle.turn_pieces.specs.Log.{made, did, Log, steps_of, events_of, HasStood}
-use Rattle.turn_pieces.specs.Kept.{part, places, ends_call}
+use Rattle.turn_pieces.specs.Kept.{own_part, places, ends_call}
 use Rattle.turn_pieces.specs.Owed.{Owed, nothing, paid, writes, takes, owes, pays, owed, unstored, Books, books, May, MayBehind, MayMake, PaysFor, HasPaid, unstored_did}
 use Rattle.turn_pieces.specs.Requests.{Acks}
 use Rattle.turn_pieces.specs.Draws.{Drawing}
@@ -204,8 +204,8 @@ pub part_nowhere : (P : Setup → ℕ → Log → Type 0) → Part P P
 part_nowhere P = λ u a l t. record { late = l; grows = stays; holds = t }
 
 -- events
-pub part_did : (u : Setup) (a : ℕ) (l : Log) (e : Event) → actor_of e ≡ a → part u a (did e ∷ l) ≡ own_next e (part u a l)
-part_did u a l e is = ap (λ (b : Bool). if b then own_next e (part u a l) else part u a l) (eq-eqb (actor_of e) a is)
+pub part_did : (u : Setup) (a : ℕ) (l : Log) (e : Event) → actor_of e ≡ a → own_part u a (did e ∷ l) ≡ own_next e (own_part u a l)
+part_did u a l e is = ap (λ (b : Bool). if b then own_next e (own_part u a l) else own_part u a l) (eq-eqb (actor_of e) a is)
 
 pub clear_did : (o : Owed) → IsClear (pays o)
 clear_did nothing = tt

@@ -9,21 +9,21 @@ use Rattle.machine_model.specs.Memory.{StoreEntry}
 use Rattle.machine_model.specs.Event.{Event, Starting, Start as Begin, did_of}
 
 -- what an event did beyond its hart's registers
-pub record Does (e : Event) (entry : Option StoreEntry) (bytes : List ℕ) (reason : Option Reason) (starts : Option Starting) (stops : Bool) : Type 0 where
+pub record HasDone (e : Event) (entry : Option StoreEntry) (bytes : List ℕ) (reason : Option Reason) (starts : Option Starting) (stops : Bool) : Type 0 where
   pub entry_is : (did_of e).entry ≡ entry
   pub bytes_are : (did_of e).bytes ≡ bytes
   pub reason_is : (did_of e).reason ≡ reason
   pub starts_is : (did_of e).starts ≡ starts
   pub stops_is : (did_of e).stops ≡ stops
 
-abbrev pub begins : Event → Bool
-begins (Begin h at opaque) = true
-begins _ = false
+abbrev pub is_begin : Event → Bool
+is_begin (Begin h at opaque) = true
+is_begin _ = false
 
 -- nothing
 pub record IsQuiet (e : Event) : Type 0 where
-  pub does : Does e None [] None None false
-  pub begins_not : begins e ≡ false
+  pub does : HasDone e None [] None None false
+  pub begins_not : is_begin e ≡ false
 
 -- the operation leaves what the reference machine has
 abbrev pub IsCalm : Word → WordOp → (answer : ℕ) → Type 0
@@ -55,7 +55,7 @@ first_drawn (i ∷ []) = Some i
 first_drawn (i ∷ j ∷ ds) = first_drawn (j ∷ ds)
 
 -- the bytes of a call for which there was no room: as many as there were places
-pub record Fills (ds bytes : List ℕ) : Type 0 where
+pub record IsCutShort (ds bytes : List ℕ) : Type 0 where
   pub none : ds ≡ [] → bytes ≡ []
   pub some : (i : ℕ) → first_drawn ds ≡ Some i → (length bytes ≡ console_places - i) × (console_places < i + length ds)
 

@@ -16,17 +16,17 @@ script_of script [] = script
 script_of script (e ∷ run) = if ends_line e then drop 1 (script_of script run) else script_of script run
 
 -- what the word held as it was loaded in this section, with no store of the reference machine placed since
-abbrev pub held_next : (at : ℕ) → Word → WordOp → (word answer : ℕ) → Option ℕ → Option ℕ
-held_next at Pend Load word answer k = k
-held_next at Pend _ word answer k = None
-held_next at (Run b) _ word answer k = None
-held_next at _ Load word answer k = if at == word then Some answer else k
-held_next at _ _ word answer k = k
+abbrev pub known_word_next : (at : ℕ) → Word → WordOp → (word answer : ℕ) → Option ℕ → Option ℕ
+known_word_next at Pend Load word answer k = k
+known_word_next at Pend _ word answer k = None
+known_word_next at (Run b) _ word answer k = None
+known_word_next at _ Load word answer k = if at == word then Some answer else k
+known_word_next at _ _ word answer k = k
 
 -- whether there are any
-abbrev pub some_bytes : List ℕ → Bool
-some_bytes [] = false
-some_bytes (b ∷ bs) = true
+abbrev pub are_some : List ℕ → Bool
+are_some [] = false
+are_some (b ∷ bs) = true
 
 -- the console places drawn for an event that is not there yet, the last first
 abbrev pub drawn_next : Word → WordOp → (answer : ℕ) → List ℕ → List ℕ
@@ -50,29 +50,29 @@ unstored_next (Console i) Store answer bs k = None
 unstored_next _ _ answer bs k = k
 
 -- since the actor's hart was found pending it loaded this in the word
-abbrev pub handed_next : ℕ → Word → Word → WordOp → (answer : ℕ) → Option ℕ → Option ℕ
-handed_next a w (Hsm t) Store answer k = if a == t then None else k
-handed_next a w v Load answer k = if same w v then Some answer else k
-handed_next a w _ _ answer k = k
+abbrev pub handed_on_next : ℕ → Word → Word → WordOp → (answer : ℕ) → Option ℕ → Option ℕ
+handed_on_next a w (Hsm t) Store answer k = if a == t then None else k
+handed_on_next a w v Load answer k = if same w v then Some answer else k
+handed_on_next a w _ _ answer k = k
 
 abbrev pub is_waiting : Taking → Bool
 is_waiting idle = false
 is_waiting _ = true
 
 -- and since then it flushed everything
-abbrev pub flushed_next : ℕ → Word → WordOp → Bool → Bool → Bool
-flushed_next a (Hsm t) Store made b = if a == t then false else b || made
-flushed_next a _ _ made b = b || made
+abbrev pub flushed_all_next : ℕ → Word → WordOp → Bool → Bool → Bool
+flushed_all_next a (Hsm t) Store made b = if a == t then false else b || made
+flushed_all_next a _ _ made b = b || made
 
 -- since its hart stopped it took the last one from LIVE
-abbrev pub last_next : ℕ → Word → WordOp → (arg answer : ℕ) → Bool → Bool
-last_next a (Hsm t) Store arg answer b = if a == t then false else b
-last_next a Live Add arg answer b = (arg == minus_one) && (answer == 1)
-last_next a _ _ arg answer b = b
+abbrev pub was_last_next : ℕ → Word → WordOp → (arg answer : ℕ) → Bool → Bool
+was_last_next a (Hsm t) Store arg answer b = if a == t then false else b
+was_last_next a Live Add arg answer b = (arg == minus_one) && (answer == 1)
+was_last_next a _ _ arg answer b = b
 
 abbrev pub was_last : ℕ → List Step → Bool
 was_last a [] = false
-was_last a (s ∷ r) = last_next a (name_of s.word) s.op s.arg s.answer (was_last a r)
+was_last a (s ∷ r) = was_last_next a (name_of s.word) s.op s.arg s.answer (was_last a r)
 
 -- a hart that has stopped says so
 abbrev pub IsUncount : Word → WordOp → (arg : ℕ) → Type 0

@@ -9,7 +9,7 @@ use Rattle.machine_model.specs.State.{Setup}
 use Rattle.machine_model.specs.Run.{is_due, last_of, passes, is_snap_begin}
 use Rattle.turn_pieces.specs.Folds.{was_last}
 use Rattle.turn_pieces.specs.Log.{made, did, Log, steps_of, events_of}
-use Rattle.turn_pieces.specs.Kept.{part, places, HasSaid}
+use Rattle.turn_pieces.specs.Kept.{own_part, places, HasSaid}
 use Rattle.turn_pieces.specs.Owed.{Owed, nothing, paid, owed, unstored, MayMake}
 use Rattle.turn_pieces.specs.Right.{IsRight}
 use Rattle.turn_pieces.specs.Draws.{filled, beyond}
@@ -45,7 +45,7 @@ pub record IsClosed (u : Setup) (a : ℕ) (l : Log) : Type 0 where
   pub clear : IsClear (owed l)
   pub none_drawn : places l ≡ []
   pub none_left : unstored l ≡ None
-  pub stops : is_due u.limit (events_of l) a (part u a l).count ≡ false
+  pub stops : is_due u.limit (events_of l) a (own_part u a l).count ≡ false
   pub last : was_last a (steps_of l) ≡ true → HasSaid l
   pub left : is_owing a (steps_of l) ≡ false
   -- who drew a place beyond the last has given a reason to end

@@ -11,7 +11,7 @@ use Rattle.machine_model.specs.Own.{Own}
 use Rattle.machine_model.specs.Walks.{need_held, access_of}
 use Rattle.machine_model.specs.Stores.{of_store, pages_reached, pages_walked}
 use Rattle.turn_pieces.specs.Log.{made, did, Log}
-use Rattle.turn_pieces.specs.Kept.{part}
+use Rattle.turn_pieces.specs.Kept.{own_part}
 
 -- the pages of RAM to which the event's store walks lead, by what its hart was before it
 abbrev pub own_pages : Own → Event → List ℕ
@@ -27,4 +27,4 @@ awaited_next page _ _ arg b = b
 abbrev pub is_awaited : Setup → (a page : ℕ) → Log → Bool
 is_awaited u a page [] = false
 is_awaited u a page (made s ∷ l) = awaited_next page (name_of s.word) s.op s.arg (is_awaited u a page l)
-is_awaited u a page (did e ∷ l) = if list_any (λ given. given == page) (own_pages (part u a l) e) then false else is_awaited u a page l
+is_awaited u a page (did e ∷ l) = if list_any (λ given. given == page) (own_pages (own_part u a l) e) then false else is_awaited u a page l

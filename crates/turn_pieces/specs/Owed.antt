@@ -13,7 +13,7 @@ use Rattle.machine_model.specs.State.{Setup}
 use Rattle.step_laws.specs.Words.{console_places}
 use Rattle.turn_pieces.specs.Folds.{Unstored, unstored_next}
 use Rattle.turn_pieces.specs.Doing.{first_drawn}
-use Rattle.turn_pieces.specs.Doing.{Does, begins, IsQuiet, Fills, last_start}
+use Rattle.turn_pieces.specs.Doing.{HasDone, is_begin, IsQuiet, IsCutShort, last_start}
 use Rattle.machine_model.specs.ReasonWords.{reason_word}
 use Rattle.turn_pieces.specs.Log.{made, did, Log, steps_of, events_of}
 use Rattle.turn_pieces.specs.Kept.{places, bytes}
@@ -177,8 +177,8 @@ pub record MayMake (u : Setup) (a : ℕ) (l : Log) (s : Step) : Type 0 where
 
 -- what is paid by what the event did
 pub record Pays (e : Event) (entry : Option StoreEntry) (bytes : List ℕ) (reason : Option Reason) (starts : Option Starting) (stops : Bool) : Type 0 where
-  pub does : Does e entry bytes reason starts stops
-  pub begins_not : begins e ≡ false
+  pub does : HasDone e entry bytes reason starts stops
+  pub begins_not : is_begin e ≡ false
 
 pub record PrintsOne (b : Books) (i : ℕ) (e : Event) : Type 0 where
   pub byte : ℕ
@@ -196,7 +196,7 @@ pub record Ends (b : Books) (number : ℕ) (e : Event) : Type 0 where
   pub reason : Reason
   pub is : number ≡ reason_word reason
   pub pays : Pays e None b.bytes (Some reason) None false
-  pub fills_it : Fills b.places b.bytes
+  pub fills_it : IsCutShort b.places b.bytes
 
 pub record Starts (t : ℕ) (e : Event) : Type 0 where
   pub at : ℕ

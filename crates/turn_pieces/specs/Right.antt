@@ -32,7 +32,7 @@ use Rattle.turn_pieces.specs.Folds.{script_of, was_last}
 use Rattle.turn_pieces.specs.Doing.{first_drawn}
 use Rattle.turn_pieces.specs.Shared.{IsShared, mode_named}
 use Rattle.turn_pieces.specs.Log.{Log, steps_of, events_of, before, AtLast, HasStood}
-use Rattle.turn_pieces.specs.Kept.{part, held, places, handed, flushed}
+use Rattle.turn_pieces.specs.Kept.{own_part, known_word, places, handed_on, has_flushed_all}
 use Rattle.turn_pieces.specs.Requests.{HasAsked}
 use Rattle.turn_pieces.specs.Snapshots.{TakesFirst, IsReply, is_going, pages_taken}
 use Rattle.turn_pieces.specs.Owed.{HasPaid}
@@ -71,7 +71,7 @@ pub record MayBe (u : Setup) (a : ℕ) (l : Log) (w : Surroundings) : Type 0 whe
   -- the word of the last step held what it answered, and so did a hart's state
   pub here : AtLast (HeldHere u w) l
   -- in section the words hold what was loaded
-  pub section : IsInSection u.layout a (steps_of l) → (x v : ℕ) → IsShared (name_of x) → held x l ≡ Some v → w.memory x ≡ v
+  pub section : IsInSection u.layout a (steps_of l) → (x v : ℕ) → IsShared (name_of x) → known_word x l ≡ Some v → w.memory x ≡ v
   -- from the first place that was drawn for the event on, all are free
   pub room : (i : ℕ) → first_drawn (places l) ≡ Some i → w.room ≡ console_places - i
 
@@ -123,9 +123,9 @@ pub record IsStart (u : Setup) (a : ℕ) (l : Log) (at opaque : ℕ) (o : Own) :
   pub not_due : is_due u.limit (events_of l) a o.count ≡ false
   pub stored : AtLast (IsOwnStart a) l
   -- what stood before the step: START and OPAQUE as they were loaded, and a full flush
-  pub at_is : handed a (Start a) (before l) ≡ Some at
-  pub opaque_is : handed a (Opaque a) (before l) ≡ Some opaque
-  pub flushed_all : flushed a (before l) ≡ true
+  pub at_is : handed_on a (Start a) (before l) ≡ Some at
+  pub opaque_is : handed_on a (Opaque a) (before l) ≡ Some opaque
+  pub flushed_all : has_flushed_all a (before l) ≡ true
 
 abbrev pub IsStop : Setup → (a : ℕ) → Log → Reason → Own → Type 0
 IsStop u a l (Reason.Limit h) o = (h ≡ a) × (a < u.layout.harts) × (is_due u.limit (events_of l) a o.count ≡ true)
@@ -174,5 +174,5 @@ IsFit u a l (Dump at bytes) o = (a ≡ monitor) × NextLine (script_of u.script 
 -- the event is the actor's, the log shows it, and it pays what the last step owes
 pub record IsRight (u : Setup) (a : ℕ) (l : Log) (e : Event) : Type 0 where
   pub own : actor_of e ≡ a
-  pub fit : IsFit u a l e (part u a l)
+  pub fit : IsFit u a l e (own_part u a l)
   pub pays : HasPaid a l e

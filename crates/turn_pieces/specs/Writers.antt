@@ -16,7 +16,7 @@ use Rattle.machine_model.specs.Own.{Own}
 use Rattle.machine_model.specs.Run.{renews}
 use Rattle.turn_pieces.specs.Doing.{IsCalm}
 use Rattle.turn_pieces.specs.Log.{made, Log, steps_of}
-use Rattle.turn_pieces.specs.Kept.{part, places, bytes}
+use Rattle.turn_pieces.specs.Kept.{own_part, places, bytes}
 use Rattle.turn_pieces.specs.Owed.{owed, unstored, books, Rests}
 use Rattle.turn_pieces.specs.Right.{IsSeen}
 use Rattle.turn_pieces.specs.Grows.{IsClear}
@@ -32,7 +32,7 @@ pub record Stands (o : Own) (p : Shown) (u : Setup) (a : ℕ) (l : Log) : Type 0
   pub layout : u.layout ≡ p.layout
   pub actor : a ≡ p.actor
   pub is : steps_of l ≡ p.steps
-  pub part_is : part u a l ≡ o
+  pub part_is : own_part u a l ≡ o
 
 -- and nothing is open: no event, no place, no byte
 pub record Tells (o : Own) (p : Shown) (u : Setup) (a : ℕ) (l : Log) : Type 0 where
