@@ -4,6 +4,7 @@ pub mod Offers
 pub mod Calls
 pub mod Accesses
 pub mod Chains
+pub mod KeptWalks
 pub mod Unmarked
 pub mod Rows
 pub mod Wrong

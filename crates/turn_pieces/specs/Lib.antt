@@ -9,6 +9,7 @@ pub mod Marks
 pub mod Snapshots
 pub mod Owed
 pub mod Right
+pub mod KeptWalks
 pub mod Grows
 pub mod Writers
 pub mod Laws

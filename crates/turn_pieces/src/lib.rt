@@ -3,4 +3,4 @@
 
 mod laws;
 
-pub use laws::{law_quiet_steps, law_turns};
+pub use laws::{law_kept_walks, law_quiet_steps, law_turns};
