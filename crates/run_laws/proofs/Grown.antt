@@ -16,7 +16,7 @@ use Rattle.run_laws.proofs.Pieces.{IsPlaced, Said}
 use Rattle.turn_pieces.specs.Log.{made, did, Log, events_of}
 use Rattle.run_laws.proofs.Placed.{with_event, placed_of}
 use Rattle.turn_pieces.specs.Kept.{HasSaid}
-use Rattle.turn_pieces.specs.Owed.{Owed, nothing, paid, writes, stores, joins, draws, fills, gives, takes, begun, left, owes, unstored_did, pays, owed, unstored, Books, books, MayBehind, MayMake, PaysFor}
+use Rattle.turn_pieces.specs.Owed.{Owed, nothing, paid, writes, stores, joins, draws, fills, gives, takes, snaps, begun, left, owes, unstored_did, pays, owed, unstored, Books, books, MayBehind, MayMake, PaysFor}
 use Rattle.turn_pieces.specs.Right.{IsRight}
 use Rattle.turn_pieces.specs.Grows.{Grows, stays, makes, does, IsClear}
 use Rattle.turn_pieces.specs.Draws.{Drawing}
@@ -99,6 +99,7 @@ fresh_head u a r s (draws i) k = (refl, k)
 fresh_head u a r s fills k = (refl, k)
 fresh_head u a r s (gives n) k = (refl, k)
 fresh_head u a r s (takes t) k = (refl, k)
+fresh_head u a r s snaps k = (refl, k)
 fresh_head u a r s begun k = (refl, k)
 fresh_head u a r s left k = (refl, k)
 
@@ -142,6 +143,7 @@ head_event u a r s es (draws i) e k x = by_event u a r s es (draws i) e k.0 k.1 
 head_event u a r s es fills e k x = by_event u a r s es fills e k.0 k.1 x
 head_event u a r s es (gives n) e k x = by_event u a r s es (gives n) e k.0 k.1 x
 head_event u a r s es (takes t) e k x = by_event u a r s es (takes t) e k.0 k.1 x
+head_event u a r s es snaps e k x = by_event u a r s es snaps e k.0 k.1 x
 head_event u a r s es begun e k x = by_event u a r s es begun e k.0 k.1 x
 head_event u a r s es left e k x = by_event u a r s es left e k.0 k.1 x
 
@@ -188,6 +190,7 @@ byte_event u a r s es (draws i) e k x = byte_owing u a r s es (draws i) (did_of 
 byte_event u a r s es fills e k x = byte_owing u a r s es fills (did_of e).bytes k.0 k.1
 byte_event u a r s es (gives n) e k x = byte_owing u a r s es (gives n) (did_of e).bytes k.0 k.1
 byte_event u a r s es (takes t) e k x = byte_owing u a r s es (takes t) (did_of e).bytes k.0 k.1
+byte_event u a r s es snaps e k x = byte_owing u a r s es snaps (did_of e).bytes k.0 k.1
 byte_event u a r s es begun e k x = byte_owing u a r s es begun (did_of e).bytes k.0 k.1
 byte_event u a r s es left e k x = byte_owing u a r s es left (did_of e).bytes k.0 k.1
 

@@ -4,19 +4,19 @@ use Rattle.std.specs.Prelude.{◌==◌, nat_lt, if◌then◌else◌}
 use Rattle.std.proofs.lemmas.Bool.{ltb-true, ltb-false}
 use Rattle.step_laws.specs.declared.steps.Step.{Step}
 use Rattle.step_laws.specs.declared.steps.WordOp.{WordOp}
-use Rattle.step_laws.specs.declared.steps.WordOp.TheVariants.{Load, Store, Add, Exchange}
+use Rattle.step_laws.specs.declared.steps.WordOp.TheVariants.{Load, Store, Swap, Add, Exchange}
 use Rattle.step_laws.specs.Steps.{new_of}
-use Rattle.step_laws.specs.Map.{Word, Pend, Run, Stop, Cons, Ipi, Hsm, Start, Opaque, Console, Ram, name_of}
+use Rattle.step_laws.specs.Map.{Word, Pend, Run, Stop, Cons, Ipi, Hsm, Start, Opaque, Dirty, Console, Ram, name_of}
 use Rattle.step_laws.specs.Sections.{is_claimant, is_claimant_next, pass, pass_next}
 use Rattle.step_laws.specs.Words.{actors}
 use Rattle.step_laws.proofs.Named.{by_test}
-use Rattle.machine_model.specs.Event.{Event}
+use Rattle.machine_model.specs.Event.{Event, SnapBegin}
 use Rattle.machine_model.specs.State.{Setup}
 use Rattle.step_laws.specs.Words.{console_places}
 use Rattle.run_laws.proofs.Placed.{Placed, steps}
 use Rattle.run_laws.proofs.Kept.{Half, whole, part, half, half_next, has_bytes, drawn, stored_bytes, unstored}
 use Rattle.turn_pieces.specs.Folds.{drawn_next, stored_next, Unstored, unstored_next}
-use Rattle.turn_pieces.specs.Doing.{HasDone, IsCutShort}
+use Rattle.turn_pieces.specs.Doing.{HasDone, IsQuiet, IsCutShort}
 use Rattle.run_laws.proofs.Accounts.{AreQuiet, Accounts, calm, writes as by_write, writes_half, writes_rest, draws as by_draw, fills as by_fill, draws_none, draws_more, fills_more, fills_last, ends, takes as by_take, gives_start, gives_opaque, lets, begins_here, leaves_here}
 use Rattle.run_laws.proofs.Bridge.{half_of, books_at, after}
 use Rattle.turn_pieces.specs.Owed.{Owed, nothing, paid, writes, stores, draws, fills, gives, takes, owes_store, owes_byte, owes_own, owes, unstored_did, IsPromised, IsNext, May, IsJoin, MayBehind, PaysFor}
@@ -61,6 +61,9 @@ no_bytes (t ∷ r) e = go (has_bytes t.events) e
 pub stop_bytes : (op : WordOp) (arg : ℕ) (ds bs : List ℕ) → (ds ≡ [] → bs ≡ []) → stored_next Stop op arg ds bs ≡ bs
 stop_bytes op arg [] bs f = sym (f refl)
 stop_bytes op arg (d ∷ ds) bs f = refl
+
+snap_quiet : IsQuiet SnapBegin
+snap_quiet = record { does = record { entry_is = refl; bytes_are = refl; reason_is = refl; starts_is = refl; stops_is = refl }; begins_not = refl }
 
 module _ (u : Setup) (a : ℕ) (r : List Placed) (n : ℕ) where
   -- in section behind a step
@@ -239,6 +242,14 @@ module _ (u : Setup) (a : ℕ) (r : List Placed) (n : ℕ) where
   free_fresh s o (Opaque t) Load arg answer h os m = record { half_is = h; head = λ es q. calm h tt (λ x. absurd x) q }
   free_fresh s o (Opaque t) Store arg answer h os m = record { half_is = h; head = λ es q. gives_opaque m.0 h m.1 q }
   free_fresh s o (Opaque t) op arg answer h os m = absurd m
+  free_fresh s o (Dirty zero) Swap arg answer h os m = record {
+    half_is = h;
+    head = record {
+      by_event = λ e x. subst (λ d. Accounts u a r n (Dirty zero) Swap arg answer (d ∷ [])) (sym x) (calm h tt (λ x. absurd x) (snap_quiet, tt));
+      by_none = λ x. absurd x;
+      byte_is = λ bs. refl;
+    };
+  }
   free_fresh s o (Run c) op arg answer h os m = calm_fresh s (Run c) op arg answer h (λ x. x) (λ es q. calm h tt (λ _. m) q)
   free_fresh s o Pend op arg answer h os m = calm_fresh s Pend op arg answer h (λ x. x) (λ es q. calm h tt (λ _. m) q)
   free_fresh s o w op arg answer h os m = calm_fresh s w op arg answer h (λ x. x) (λ es q. calm h tt (λ x. absurd x) q)

@@ -1,5 +1,5 @@
 -- What writers of turns use: quiet steps, parts behind one another, events, and facts that stay.
-use Rattle.std.proofs.Common.{◌≡◌, ◌≢◌, ◌<◌, ◌+◌, ℕ, Bool, true, false, List, [], ◌∷◌, ◌++◌, Option, Some, None, refl, sym, ap, subst, ◌∙◌, inr, arith, append_assoc, length-append, eq-eqb, ne_eqb}
+use Rattle.std.proofs.Common.{◌≡◌, ◌≢◌, ◌<◌, ◌+◌, ℕ, zero, Bool, true, false, List, [], ◌∷◌, ◌++◌, Option, Some, None, refl, sym, ap, subst, ◌∙◌, inr, arith, append_assoc, length-append, eq-eqb, ne_eqb}
 use Rattle.std.specs.Prelude.{◌==◌, ◌&&◌, if◌then◌else◌}
 use Rattle.rv64_priv.specs.State.{Arch}
 use Rattle.rv64_priv.specs.Csr.{regime}
@@ -9,8 +9,8 @@ use Rattle.rv64_exec.specs.Code.{Code}
 use Rattle.machine_model.specs.Access.{spot_of}
 use Rattle.step_laws.specs.declared.steps.Step.{Step}
 use Rattle.step_laws.specs.declared.steps.WordOp.{WordOp}
-use Rattle.step_laws.specs.declared.steps.WordOp.TheVariants.{Load, Store, Add, Exchange}
-use Rattle.step_laws.specs.Map.{Word, Pend, Run, Stop, Cons, Ipi, Hsm, Start, Opaque, Place, Console, Ram, name_of}
+use Rattle.step_laws.specs.declared.steps.WordOp.TheVariants.{Load, Store, Swap, Add, Exchange}
+use Rattle.step_laws.specs.Map.{Word, Pend, Run, Stop, Cons, Ipi, Hsm, Start, Opaque, Place, Dirty, Console, Ram, name_of}
 use Rattle.machine_model.specs.Event.{Event, Fetch, actor_of, did_of}
 use Rattle.machine_model.specs.State.{Setup, hart, initial}
 use Rattle.machine_model.specs.Own.{Own, own}
@@ -59,48 +59,50 @@ may_clear u a b paid w op n arg answer c k = (tt, k)
 may_clear u a b o w op n arg answer c k = absurd c
 
 -- calm steps may be made, and owe nothing
-calm_may : (u : Setup) (a : ℕ) (b : Books) (w : Word) (op : WordOp) (arg answer : ℕ) → b.places ≡ [] → IsCalm w op answer → May u a b w op arg answer
-calm_may u a b Cons Load arg answer p c = tt
-calm_may u a b Cons op arg answer p c = absurd c
-calm_may u a b (Console i) Load arg answer p c = tt
-calm_may u a b (Console i) op arg answer p c = absurd c
-calm_may u a b Stop Load arg answer p c = tt
-calm_may u a b Stop op arg answer p c = absurd c
-calm_may u a b (Hsm t) Load arg answer p c = tt
-calm_may u a b (Hsm t) (Exchange old) arg answer p c = λ e. absurd (c e)
-calm_may u a b (Hsm t) op arg answer p c = absurd c
-calm_may u a b (Start t) Load arg answer p c = tt
-calm_may u a b (Start t) op arg answer p c = absurd c
-calm_may u a b (Opaque t) Load arg answer p c = tt
-calm_may u a b (Opaque t) op arg answer p c = absurd c
-calm_may u a b (Run x) op arg answer p c = p
-calm_may u a b Pend op arg answer p c = p
-calm_may u a b w op arg answer p c = tt
+calm_may : (u : Setup) (a : ℕ) (b : Books) (w : Word) (op : WordOp) (arg answer : ℕ) → b.places ≡ [] → IsCalm w op answer → IsPlain a w op → May u a b w op arg answer
+calm_may u a b Cons Load arg answer p c q = tt
+calm_may u a b Cons op arg answer p c q = absurd c
+calm_may u a b (Console i) Load arg answer p c q = tt
+calm_may u a b (Console i) op arg answer p c q = absurd c
+calm_may u a b Stop Load arg answer p c q = tt
+calm_may u a b Stop op arg answer p c q = absurd c
+calm_may u a b (Hsm t) Load arg answer p c q = tt
+calm_may u a b (Hsm t) (Exchange old) arg answer p c q = λ e. absurd (c e)
+calm_may u a b (Hsm t) op arg answer p c q = absurd c
+calm_may u a b (Start t) Load arg answer p c q = tt
+calm_may u a b (Start t) op arg answer p c q = absurd c
+calm_may u a b (Opaque t) Load arg answer p c q = tt
+calm_may u a b (Opaque t) op arg answer p c q = absurd c
+calm_may u a b (Dirty zero) Swap arg answer p c q = absurd q
+calm_may u a b (Run x) op arg answer p c q = p
+calm_may u a b Pend op arg answer p c q = p
+calm_may u a b w op arg answer p c q = tt
 
 pub lost_test : (old answer : ℕ) (o : Owed) → old ≢ answer → (if old == answer then o else nothing) ≡ nothing
 lost_test old answer o ne = ap (λ (b : Bool). if b then o else nothing) (ne_eqb old answer ne)
 
-pub calm_owes : (o : Owed) (k : Option Unstored) (w : Word) (op : WordOp) (n arg answer : ℕ) → IsCalm w op answer → owes o k w op n arg answer ≡ nothing
-calm_owes o k (Ram i) Load n arg answer c = refl
-calm_owes o k (Ram i) (Exchange old) n arg answer c = lost_test old answer (writes n (Rattle.step_laws.specs.Steps.new_of (Exchange old) answer arg)) c
-calm_owes o k (Ram i) op n arg answer c = absurd c
-calm_owes o k Ipi Load n arg answer c = refl
-calm_owes o k Ipi (Exchange old) n arg answer c = lost_test old answer (writes n (Rattle.step_laws.specs.Steps.new_of (Exchange old) answer arg)) c
-calm_owes o k Ipi op n arg answer c = absurd c
-calm_owes o k Cons Load n arg answer c = refl
-calm_owes o k Cons op n arg answer c = absurd c
-calm_owes o k (Console i) Load n arg answer c = refl
-calm_owes o k (Console i) op n arg answer c = absurd c
-calm_owes o k Stop Load n arg answer c = refl
-calm_owes o k Stop op n arg answer c = absurd c
-calm_owes o k (Hsm t) Load n arg answer c = refl
-calm_owes o k (Hsm t) (Exchange old) n arg answer c = lost_test old answer (takes t) c
-calm_owes o k (Hsm t) op n arg answer c = absurd c
-calm_owes o k (Start t) Load n arg answer c = refl
-calm_owes o k (Start t) op n arg answer c = absurd c
-calm_owes o k (Opaque t) Load n arg answer c = refl
-calm_owes o k (Opaque t) op n arg answer c = absurd c
-calm_owes o k w op n arg answer c = refl
+pub calm_owes : (a : ℕ) (o : Owed) (k : Option Unstored) (w : Word) (op : WordOp) (n arg answer : ℕ) → IsCalm w op answer → IsPlain a w op → owes o k w op n arg answer ≡ nothing
+calm_owes a o k (Ram i) Load n arg answer c q = refl
+calm_owes a o k (Ram i) (Exchange old) n arg answer c q = lost_test old answer (writes n (Rattle.step_laws.specs.Steps.new_of (Exchange old) answer arg)) c
+calm_owes a o k (Ram i) op n arg answer c q = absurd c
+calm_owes a o k Ipi Load n arg answer c q = refl
+calm_owes a o k Ipi (Exchange old) n arg answer c q = lost_test old answer (writes n (Rattle.step_laws.specs.Steps.new_of (Exchange old) answer arg)) c
+calm_owes a o k Ipi op n arg answer c q = absurd c
+calm_owes a o k Cons Load n arg answer c q = refl
+calm_owes a o k Cons op n arg answer c q = absurd c
+calm_owes a o k (Console i) Load n arg answer c q = refl
+calm_owes a o k (Console i) op n arg answer c q = absurd c
+calm_owes a o k Stop Load n arg answer c q = refl
+calm_owes a o k Stop op n arg answer c q = absurd c
+calm_owes a o k (Hsm t) Load n arg answer c q = refl
+calm_owes a o k (Hsm t) (Exchange old) n arg answer c q = lost_test old answer (takes t) c
+calm_owes a o k (Hsm t) op n arg answer c q = absurd c
+calm_owes a o k (Start t) Load n arg answer c q = refl
+calm_owes a o k (Start t) op n arg answer c q = absurd c
+calm_owes a o k (Opaque t) Load n arg answer c q = refl
+calm_owes a o k (Opaque t) op n arg answer c q = absurd c
+calm_owes a o k (Dirty zero) Swap n arg answer c q = absurd q
+calm_owes a o k w op n arg answer c q = refl
 
 calm_drawn : (w : Word) (op : WordOp) (answer : ℕ) (ds : List ℕ) → IsCalm w op answer → drawn_next w op answer ds ≡ ds
 calm_drawn Cons Add answer ds c = absurd c
@@ -126,7 +128,7 @@ quietly_events (s ∷ r) l = quietly_events r l
 
 pub quietly_clear : (a : ℕ) (r : List Step) (l : Log) → AreCalm a r → IsClear (owed l) → IsClear (owed (quietly r l))
 quietly_clear a [] l c k = k
-quietly_clear a (s ∷ r) l c k = nothing_clear (owed (quietly (s ∷ r) l)) (calm_owes (owed (quietly r l)) (unstored (quietly r l)) (name_of s.word) s.op s.word s.arg s.answer c.0)
+quietly_clear a (s ∷ r) l c k = nothing_clear (owed (quietly (s ∷ r) l)) (calm_owes a (owed (quietly r l)) (unstored (quietly r l)) (name_of s.word) s.op s.word s.arg s.answer c.0 c.1)
 
 quietly_places : (a : ℕ) (r : List Step) (l : Log) → AreCalm a r → places (quietly r l) ≡ places l
 quietly_places a [] l c = refl
@@ -140,7 +142,7 @@ pub quietly_grows : (u : Setup) (a : ℕ) (r : List Step) (l : Log) → AreCalm 
 quietly_grows u a [] l c k p = stays
 quietly_grows u a (s ∷ r) l c k p = makes s (quietly_grows u a r l c.2 k p) (record {
   behind = may_clear u a (books (quietly r l)) (owed (quietly r l)) (name_of s.word) s.op s.word s.arg s.answer (quietly_clear a r l c.2 k)
-      (calm_may u a (books (quietly r l)) (name_of s.word) s.op s.arg s.answer (quietly_places a r l c.2 ∙ p) c.0);
+      (calm_may u a (books (quietly r l)) (name_of s.word) s.op s.arg s.answer (quietly_places a r l c.2 ∙ p) c.0 c.1);
   acks = plain_acks a (quietly r l) (name_of s.word) s.op c.1;
   draws_last = plain_draws a (steps_of (quietly r l)) (name_of s.word) s.op s.answer c.0 c.1;
 })

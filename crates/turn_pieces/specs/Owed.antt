@@ -2,18 +2,19 @@
 use Rattle.std.specs.Prelude.{◌≡◌, ◌≢◌, ◌⊎◌, ◌≤◌, ◌<◌, ℕ, zero, suc, ◌+◌, ◌==◌, nat_lt, if◌then◌else◌, Bool, true, false, List, [], ◌∷◌, length, Option, Some, None}
 use Rattle.step_laws.specs.declared.steps.Step.{Step}
 use Rattle.step_laws.specs.declared.steps.WordOp.{WordOp}
-use Rattle.step_laws.specs.declared.steps.WordOp.TheVariants.{Load, Store, Add, Exchange}
+use Rattle.step_laws.specs.declared.steps.WordOp.TheVariants.{Load, Store, Swap, Add, Exchange}
 use Rattle.step_laws.specs.Steps.{new_of}
-use Rattle.step_laws.specs.Map.{Word, Pend, Run, Stop, Cons, Ipi, Hsm, Start, Opaque, Console, Ram, name_of}
+use Rattle.step_laws.specs.Map.{Word, Pend, Run, Stop, Cons, Ipi, Hsm, Start, Opaque, Dirty, Console, Ram, name_of}
 use Rattle.step_laws.specs.Sections.{IsInSection}
 use Rattle.machine_model.specs.declared.reason.Reason.{Reason}
 use Rattle.machine_model.specs.Memory.{StoreEntry, write_of}
-use Rattle.machine_model.specs.Event.{Event, Starting, Start as Begin, did_of}
+use Rattle.machine_model.specs.Event.{Event, Starting, Start as Begin, SnapBegin, did_of}
 use Rattle.machine_model.specs.State.{Setup}
-use Rattle.step_laws.specs.Words.{console_places}
+use Rattle.step_laws.specs.Words.{console_places, monitor}
 use Rattle.turn_pieces.specs.Folds.{Unstored, unstored_next}
 use Rattle.turn_pieces.specs.Doing.{first_drawn}
 use Rattle.turn_pieces.specs.Doing.{HasDone, is_begin, IsQuiet, IsCutShort, last_start}
+use Rattle.machine_model.specs.Run.{last_of, passes, is_snap_begin}
 use Rattle.machine_model.specs.ReasonWords.{reason_word}
 use Rattle.turn_pieces.specs.Log.{made, did, Log, steps_of, events_of}
 use Rattle.turn_pieces.specs.Kept.{places, bytes}
@@ -40,6 +41,8 @@ pub data Owed : Type 0 where
   gives : (number : ℕ) → Owed
   -- a hart was taken that was stopped
   takes : (target : ℕ) → Owed
+  -- a snapshot's first word was taken
+  snaps : Owed
   -- the own hart begins, or stops
   begun : Owed
   left : Owed
@@ -70,6 +73,7 @@ owes o k (Console i) Store n arg answer = owes_byte k
 owes o k Stop (Exchange old) n arg answer = gives arg
 owes o k (Hsm t) (Exchange old) n arg answer = if old == answer then takes t else nothing
 owes o k (Hsm t) Store n arg answer = owes_own arg
+owes o k (Dirty zero) Swap n arg answer = snaps
 owes o k w op n arg answer = nothing
 
 -- a byte whose event stands and that still has to be stored in its place
@@ -155,6 +159,7 @@ May u a b (Start t) op arg answer = ⊥
 May u a b (Opaque t) Load arg answer = Unit {0}
 May u a b (Opaque t) Store arg answer = (at : ℕ) × (last_start b.events ≡ Some (record { target = t; at = at; opaque = arg }))
 May u a b (Opaque t) op arg answer = ⊥
+May u a b (Dirty zero) Swap arg answer = passes is_snap_begin (last_of monitor b.events) ≡ false
 May u a b (Run c) op arg answer = b.places ≡ []
 May u a b Pend op arg answer = b.places ≡ []
 May u a b w op arg answer = Unit {0}
@@ -214,6 +219,7 @@ PaysFor a b (draws i) e = PrintsOne b i e
 PaysFor a b fills e = PrintsAll b e
 PaysFor a b (gives number) e = Ends b number e
 PaysFor a b (takes t) e = Starts t e
+PaysFor a b snaps e = e ≡ SnapBegin
 PaysFor a b begun e = (at : ℕ) × (opaque : ℕ) × (e ≡ Begin a at opaque)
 PaysFor a b left e = Pays e None [] None None true
 

@@ -1,5 +1,5 @@
 -- What writers of turns say of a function that makes steps.
-use Rattle.std.specs.Prelude.{◌≡◌, ◌≢◌, ℕ, ◌≤◌, false, List, [], ◌∷◌, ◌++◌, length, None}
+use Rattle.std.specs.Prelude.{◌≡◌, ◌≢◌, ℕ, zero, ◌≤◌, false, List, [], ◌∷◌, ◌++◌, length, None}
 use Rattle.std.specs.List.{AllByRecursion}
 use Rattle.rv64_priv.specs.State.{Arch}
 use Rattle.rv64_priv.specs.declared.state.Kind.{Kind}
@@ -7,8 +7,8 @@ use Rattle.rv64_priv.specs.Walk.{Walked}
 use Rattle.step_laws.specs.declared.words.Layout.{Layout}
 use Rattle.step_laws.specs.declared.steps.Step.{Step}
 use Rattle.step_laws.specs.declared.steps.WordOp.{WordOp}
-use Rattle.step_laws.specs.declared.steps.WordOp.TheVariants.{Load, Store}
-use Rattle.step_laws.specs.Map.{Word, Pend, Stop, Run, Hsm, Place, name_of}
+use Rattle.step_laws.specs.declared.steps.WordOp.TheVariants.{Load, Store, Swap}
+use Rattle.step_laws.specs.Map.{Word, Pend, Stop, Run, Hsm, Place, Dirty, name_of}
 use Rattle.step_laws.specs.Sections.{IsInSection}
 use Rattle.machine_model.specs.Event.{Event}
 use Rattle.machine_model.specs.State.{Setup}
@@ -41,10 +41,11 @@ pub record Tells (o : Own) (p : Shown) (u : Setup) (a : ℕ) (l : Log) : Type 0 
   pub none_drawn : places l ≡ []
   pub none_left : unstored l ≡ None
 
--- a step that needs nothing else of the log: no ack, and no look at STOP
+-- a step that needs nothing else of the log: no ack, no look at STOP, no first swap of a snapshot
 abbrev pub IsPlain : (a : ℕ) → Word → WordOp → Type 0
 IsPlain a (Place t s k) Store = t ≢ a
 IsPlain a Stop Load = ⊥
+IsPlain a (Dirty zero) Swap = ⊥
 IsPlain a _ _ = Unit {0}
 
 -- steps of the actor that need no event
