@@ -1,5 +1,5 @@
 -- The end of a machine whose records of all actors were joined.
-use Rattle.std.specs.Prelude.{◌⊎◌, ◌≡◌, ◌≢◌, ℕ, List, ◌++◌}
+use Rattle.std.specs.Prelude.{◌⊎◌, ◌≡◌, ◌≢◌, ℕ, List, [], ◌++◌}
 use mathlib.Core.Option.{some}
 use lib.ListN.{get_elem?}
 use Rattle.step_laws.specs.declared.steps.Record.{Record}
@@ -29,6 +29,7 @@ pub record IsRead (u : Setup) (hs : List Step) (records : List Record) (placed :
   pub order : hs ≡ steps all ++ boot
   pub own : (k : ℕ) (r : Record) → get_elem? records k ≡ some r → r.actor ≢ loader → mine r.actor all ≡ placed r.actor
   pub events : run_of all ≡ run
+  pub loaders : (a : ℕ) → a ≢ loader → own_steps a boot ≡ []
   pub told : Told u all
 
 -- what joins gives a run, where the loader's record leaves the image and each other record is cut in turns

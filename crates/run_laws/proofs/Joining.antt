@@ -228,6 +228,7 @@ joined_composition u words records given limits j image absent turned is_booted 
       own = λ k r e ne. c.reads.kept r.actor ∙ given_here u words records given limits j turned p.h p.boot p.whole p.alone p.rests k r e ne;
       events = c.reads.events;
       told = c.told;
+      loaders = p.alone;
     }
 
     ended : IsEnded u words c.run

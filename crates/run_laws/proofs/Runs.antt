@@ -117,6 +117,7 @@ run_law u words records turns logs limits j b t = (c.0, c.1, read)
     read = record {
       all = log_of c.2.all;
       stores = c.2.boot;
+      loaders = c.2.loaders;
       order = c.2.order ∙ ap (λ l. l ++ c.2.boot) (sym (log_steps c.2.all));
       own = λ k r e ne. own_log u r.actor c.2.all c.2.told ∙ (ap log_of (c.2.own k r e ne) ∙ log_again u r.actor (chain_grows u r.actor (t.each k r e ne).chain));
       events = log_events c.2.all ∙ c.2.events;

@@ -1,5 +1,5 @@
 -- What the headline's parts say of one run, in its own words.
-use Rattle.std.specs.Prelude.{◌≡◌, ◌≢◌, ◌≤◌, ◌<◌, ◌==◌, ℕ, true, if◌then◌else◌, IsTrue, List, [], ◌∷◌, ◌++◌, length, Some}
+use Rattle.std.specs.Prelude.{◌≡◌, ◌≢◌, ◌≤◌, ◌<◌, ◌/◌, ◌⊎◌, ◌==◌, ℕ, true, if◌then◌else◌, IsTrue, List, [], ◌∷◌, ◌++◌, length, Some}
 use Rattle.std.specs.List.{list_any}
 use mathlib.Core.Option.{some}
 use lib.ListN.{get_elem?}
@@ -9,16 +9,17 @@ use Rattle.rv64_priv.specs.Walk.{Walked, Leaf}
 use Rattle.step_laws.specs.declared.words.Layout.{Layout}
 use Rattle.step_laws.specs.declared.steps.Record.{Record}
 use Rattle.step_laws.specs.declared.steps.Step.{Step}
-use Rattle.step_laws.specs.Words.{monitor}
-use Rattle.step_laws.specs.Map.{name_of}
+use Rattle.step_laws.specs.Words.{monitor, loader}
+use Rattle.step_laws.specs.Map.{Ram, name_of}
 use Rattle.step_laws.specs.Steps.{own_steps}
 use Rattle.step_laws.specs.Past.{Each}
 use Rattle.step_laws.specs.Layout.{IsInLimits}
 use Rattle.step_laws.specs.Sections.{IsInSection}
 use Rattle.step_laws.specs.SectionLaws.{IsRelease, IsTouched}
-use Rattle.step_laws.specs.Discipline.{IsActor}
+use Rattle.step_laws.specs.Discipline.{IsActor, Writes}
 use Rattle.step_laws.specs.Joined.{IsJoined}
-use Rattle.machine_model.specs.Event.{Event, Outcome, Exec}
+use Rattle.step_laws.specs.SnapshotLaws.{IsMarked}
+use Rattle.machine_model.specs.Event.{Event, Outcome, Exec, SnapEnd}
 use Rattle.machine_model.specs.State.{Setup, hart}
 use Rattle.machine_model.specs.Own.{own}
 use Rattle.machine_model.specs.Script.{script_results}
@@ -26,9 +27,10 @@ use Rattle.machine_model.specs.Run.{state_of, fetches}
 use Rattle.machine_model.specs.Walks.{need}
 use Rattle.machine_model.specs.Perform.{surroundings}
 use Rattle.machine_model.specs.Lawful.{Flushing, flushing, IsRun, IsAllowed}
-use Rattle.turn_pieces.specs.Log.{Log, events_of}
+use Rattle.turn_pieces.specs.Log.{Item, made, did, Log, events_of}
 use Rattle.turn_pieces.specs.Kept.{own_part}
 use Rattle.run_laws.specs.Read.{IsRead}
+use Rattle.run_laws.specs.RunLaws.{AreTurned}
 
 -- the run as it was at the hart's last Fetch
 abbrev pub at_fetch : ℕ → List Event → List Event
@@ -59,3 +61,20 @@ HartsAreTheirLogs = (u : Setup) (steps : List Step) (records : List Record) (log
 abbrev pub ScriptIsTheMonitors : Type 0
 ScriptIsTheMonitors = (steps : List Step) (records : List Record) (logs : ℕ → Log) (run : List Event) → IsRead steps records logs run
     → (k : ℕ) (r : Record) → get_elem? records k ≡ some r → r.actor ≡ monitor → script_results run ≡ script_results (events_of (logs monitor))
+
+-- a finished snapshot lists the page
+abbrev pub Lists : (page : ℕ) → Item → Type 0
+Lists page (did (SnapEnd pages)) = IsTrue (list_any (λ listed. listed == page) pages)
+Lists page _ = ⊥
+
+abbrev pub HasSnapshot : (page : ℕ) → Log → Type 0
+HasSnapshot page [] = ⊥
+HasSnapshot page (x ∷ l) = Lists page x ⊎ HasSnapshot page l
+
+-- the page of RAM to which a step stores is marked at the end, or taken by the running snapshot, or a snapshot lists it that finished
+-- behind the step
+abbrev pub StoredPagesAreKept : Type 0
+StoredPagesAreKept = (u : Setup) (words : List ℕ) (records : List Record) (turns : ℕ → ℕ) (logs : ℕ → Log) (run : List Event) → IsInLimits u.layout → (j : IsJoined u.layout words records)
+    → AreTurned u records turns logs → (read : IsRead j.steps records logs run) → (k : ℕ) (r : Record) → get_elem? records k ≡ some r → r.actor ≡ monitor
+    → (newer older : Log) (s : Step) (i : ℕ) → read.all ≡ newer ++ made s ∷ older → s.actor ≢ loader → name_of s.word ≡ Ram i → Writes s.op
+    → IsMarked u.layout (i / 512) j.steps ⊎ HasSnapshot (i / 512) newer

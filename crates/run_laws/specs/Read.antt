@@ -5,6 +5,7 @@ use lib.ListN.{get_elem?}
 use Rattle.step_laws.specs.declared.steps.Record.{Record}
 use Rattle.step_laws.specs.declared.steps.Step.{Step}
 use Rattle.step_laws.specs.Words.{loader}
+use Rattle.step_laws.specs.Steps.{own_steps}
 use Rattle.machine_model.specs.Event.{Event, actor_of}
 use Rattle.machine_model.specs.State.{Setup}
 use Rattle.turn_pieces.specs.Log.{Item, made, did, Log, steps_of, events_of}
@@ -30,5 +31,7 @@ pub record IsRead (steps : List Step) (records : List Record) (logs : ℕ → Lo
   pub all : Log
   pub stores : List Step
   pub order : steps ≡ steps_of all ++ stores
+  -- those are the loader's
+  pub loaders : (a : ℕ) → a ≢ loader → own_steps a stores ≡ []
   pub own : (k : ℕ) (r : Record) → get_elem? records k ≡ some r → r.actor ≢ loader → own_items r.actor all ≡ logs r.actor
   pub events : events_of all ≡ run

@@ -1,9 +1,8 @@
 -- A walk that is kept is seen.
-use Rattle.std.proofs.Common.{◌≡◌, ℕ, Bool, true, false, List, [], ◌∷◌, refl, ap, ◌∙◌, inl, inr, eqb-true}
+use Rattle.std.proofs.Common.{◌≡◌, ℕ, Bool, true, false, List, [], ◌∷◌, refl, inl, inr}
 use Rattle.std.specs.Prelude.{◌==◌, ◌&&◌, if◌then◌else◌}
 use Rattle.rv64_priv.specs.Csr.{regime}
-use Rattle.rv64_priv.specs.Flush.{Flush, covers}
-use Rattle.rv64_priv.specs.Walk.{Leaf}
+use Rattle.rv64_priv.specs.Flush.{covers}
 use Rattle.walk_laws.specs.WalkLoads.{Found, reads_of}
 use Rattle.walk_laws.specs.KeptWalks.{Item as WalkItem, flushed, HasStood as HasKept}
 use Rattle.machine_model.specs.Event.{Event, Flushes}
