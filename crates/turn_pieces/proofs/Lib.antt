@@ -12,3 +12,4 @@ pub mod TwoHarts
 pub mod AtLimit
 mod Stale
 mod Moved
+mod Script
