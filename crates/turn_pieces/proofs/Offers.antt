@@ -3,14 +3,16 @@ use Rattle.std.proofs.Common.{◌≡◌, ◌≢◌, ◌<◌, ◌≤◌, ◌+◌,
 use Rattle.std.specs.Prelude.{if◌then◌else◌}
 use Rattle.step_laws.specs.declared.steps.Step.{Step}
 use Rattle.step_laws.specs.declared.steps.WordOp.{WordOp}
-use Rattle.step_laws.specs.declared.steps.WordOp.TheVariants.{Store, Add, Exchange}
+use Rattle.step_laws.specs.declared.steps.WordOp.TheVariants.{Store, Swap, Add, Exchange}
 use Rattle.step_laws.specs.Steps.{new_of}
-use Rattle.step_laws.specs.Map.{Word, Stop, Cons, Hsm, Start, Opaque, Console, Ram, name_of}
+use Rattle.step_laws.specs.Map.{Word, Stop, Cons, Hsm, Start, Opaque, Dirty, Console, Ram, name_of}
 use Rattle.step_laws.specs.Sections.{IsInSection}
 use Rattle.machine_model.specs.declared.reason.Reason.{Reason}
 use Rattle.machine_model.specs.Memory.{write_of}
-use Rattle.machine_model.specs.Event.{Event, Start as Begin, actor_of}
+use Rattle.machine_model.specs.Event.{Event, Start as Begin, SnapBegin, actor_of}
 use Rattle.machine_model.specs.State.{Setup}
+use Rattle.machine_model.specs.Run.{last_of, passes, is_snap_begin}
+use Rattle.step_laws.specs.Words.{monitor}
 use Rattle.step_laws.specs.Words.{console_places}
 use Rattle.turn_pieces.specs.Doing.{IsCutShort, last_start, first_drawn}
 use Rattle.turn_pieces.specs.Folds.{drawn_next, unstored_next}
@@ -19,7 +21,7 @@ use Rattle.turn_pieces.specs.Draws.{may_draw, Drawing}
 use Rattle.machine_model.specs.ReasonWords.{reason_word}
 use Rattle.turn_pieces.specs.Log.{made, did, Log, steps_of, events_of}
 use Rattle.turn_pieces.specs.Kept.{own_part, places, bytes}
-use Rattle.turn_pieces.specs.Owed.{Owed, nothing, paid, writes, stores, joins, draws, fills, gives, takes, begun, left, owes_store, owes_own, owed, unstored, books, May, MayMake, MayBehind, Rests, Pays, PaysFor, HasPaid}
+use Rattle.turn_pieces.specs.Owed.{Owed, nothing, paid, writes, stores, joins, draws, fills, gives, takes, snaps, begun, left, owes_store, owes_own, owed, unstored, books, May, MayMake, MayBehind, Rests, Pays, PaysFor, HasPaid}
 use Rattle.turn_pieces.specs.Right.{IsFit}
 use Rattle.turn_pieces.specs.Grows.{Grows, stays, makes, does, IsClear}
 use Rattle.turn_pieces.proofs.Writers.{may_named, owed_named, may_clear}
@@ -116,6 +118,11 @@ module _ (u : Setup) (a : ℕ) (l : Log) where
 
     pub let_hart : (s : Step) (t : ℕ) → name_of s.word ≡ Hsm t → s.op ≡ Store → s.arg ≡ 2 → Grows u a l (made s ∷ l)
     let_hart s t n o arg = makes s stays (free s (Hsm t) Store n o (inl arg) tt tt)
+
+    -- a snapshot begins at its first swap
+    pub begin_snapshot : (s : Step) → name_of s.word ≡ Dirty 0 → s.op ≡ Swap → a ≡ monitor → passes is_snap_begin (last_of monitor (events_of l)) ≡ false
+        → IsFit u a (made s ∷ l) SnapBegin (own_part u a (made s ∷ l)) → Grows u a l (did SnapBegin ∷ made s ∷ l)
+    begin_snapshot s n o who none fit = acts s snaps SnapBegin (free s (Dirty 0) Swap n o none tt tt) (owed_named l s (Dirty 0) Swap n o) (sym who) fit refl
 
     own_owes : (s : Step) (arg : ℕ) → name_of s.word ≡ Hsm a → s.op ≡ Store → s.arg ≡ arg → owed (made s ∷ l) ≡ owes_own arg
     own_owes s arg n o is = owed_named l s (Hsm a) Store n o ∙ ap owes_own is
