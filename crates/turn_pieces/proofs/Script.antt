@@ -1,6 +1,6 @@
 -- A script, done by the monitor: two bytes are awaited, a snapshot takes three pages, two bytes are dumped, and the machine is stopped. Its
 -- log is written by hand, and is a chain of turns.
-use Rattle.std.proofs.Common.{◌≡◌, ◌≢◌, ◌<◌, ◌+◌, ◌*◌, ◌≤◌, ℕ, zero, suc, true, false, true≢false, List, [], ◌∷◌, Option, Some, None, refl, sym, arith}
+use Rattle.std.proofs.Common.{◌+◌, ◌*◌, true≢false, [], ◌∷◌, refl, sym, arith}
 use Rattle.step_laws.specs.declared.steps.WordOp.TheVariants.{Load, Store, Swap, Exchange}
 use Rattle.step_laws.specs.Words.{first_place, first_dirty_word, first_ram_word}
 use Rattle.step_laws.specs.Map.{name_of}
@@ -16,7 +16,7 @@ use Rattle.machine_model.specs.Sbi.{sbi_of, bytes_from}
 use Rattle.machine_model.specs.Lawful.{flushing}
 use Rattle.walk_laws.specs.WalkLoads.{reads_of}
 use Rattle.turn_pieces.specs.Log.{made, did, Log}
-use Rattle.turn_pieces.specs.Grows.{Grows, stays, makes, does, IsClosed, AreTurns, none, turn, rests, IsChain, whole}
+use Rattle.turn_pieces.specs.Grows.{Grows, stays, makes, does, IsClosed, none, turn, rests, IsChain, whole}
 use Rattle.turn_pieces.proofs.Writers.{grows_then}
 use Rattle.turn_pieces.proofs.Rows.{step}
 

@@ -19,7 +19,7 @@ use Rattle.turn_pieces.specs.Log.{made, Log, steps_of}
 use Rattle.turn_pieces.specs.Kept.{own_part, places, bytes}
 use Rattle.turn_pieces.specs.Owed.{owed, unstored, books, Rests}
 use Rattle.turn_pieces.specs.Right.{IsSeen}
-use Rattle.turn_pieces.specs.Grows.{IsClear}
+use Rattle.turn_pieces.specs.Grows.{IsClear, IsTurn}
 
 -- what a port shows (it stands for guest_ram's)
 pub record Shown : Type 0 where
@@ -110,3 +110,12 @@ Keeps c fills u a l = AllByRecursion (λ f. IsSeen u.layout.pages a c f.kind f.v
 -- the event ends none of them
 abbrev pub Spares : (a : ℕ) → Event → List Fill → Type 0
 Spares a e fills = AllByRecursion (λ f. renews a f.va f.end e ≡ false) fills
+
+-- of a turn: each log of which the one holds goes on by a turn to one of which the other holds
+pub record TurnsTo (u : Setup) (a : ℕ) (l : Log) (Q : Log → Type 0) : Type 0 where
+  pub late : Log
+  pub turn : IsTurn u a l late
+  pub holds : Q late
+
+abbrev pub Turned : (P Q : Setup → ℕ → Log → Type 0) → Type 0
+Turned P Q = (u : Setup) (a : ℕ) (l : Log) → P u a l → TurnsTo u a l (Q u a)
