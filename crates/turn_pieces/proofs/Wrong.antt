@@ -9,7 +9,7 @@ use Rattle.rv64_priv.specs.Walk.{Walked, walk_of}
 use Rattle.rv64_exec.specs.declared.needs.Answer.{Answer}
 use Rattle.rv64_exec.specs.Plan.{need_of}
 use Rattle.rv64_exec.specs.Finish.{done}
-use Rattle.step_laws.specs.declared.steps.WordOp.TheVariants.{Load, Store, Add, Or}
+use Rattle.step_laws.specs.declared.steps.WordOp.TheVariants.{Load, Store, Add, Or, Exchange}
 use Rattle.step_laws.specs.Words.{first_ram_word, first_console_word, first_place, first_dirty_word, console_places, ipi_word}
 use Rattle.step_laws.specs.Map.{name_of}
 use Rattle.machine_model.specs.declared.mode.Mode.TheVariants.{Started}
@@ -104,6 +104,15 @@ asked = made (step 0 (first_place + 8) Load 0 1) ∷ made load_stop ∷ []
 ack_before_flush : MayMake u 0 asked (step 0 (first_place + 8) Store 0 0) → ⊥
 unfolding name_of
 ack_before_flush k = (k.acks refl 1 refl (λ d. apart 1 3 refl d)).0 refl
+
+-- behind its flush it may be acked
+ack_behind_flush : MayMake u 0 (did (Flushes 0 Full) ∷ made (step 0 11 Store 0 0) ∷ made (step 0 11 (Exchange 0) 1 0) ∷ asked) (step 0 (first_place + 8) Store 0 0)
+unfolding or_zero name_of
+ack_behind_flush = record {
+  behind = (tt, tt);
+  acks = λ e q loaded drain. inl (refl, (λ k. absurd (cc (k))), inr ((λ k. absurd (cc (k))), inr ((λ k. absurd (cc (k))), inl (refl, refl, ap or_zero loaded))));
+  draws_last = tt;
+}
 
 -- a start with no full flush
 start_without_flush : IsRight u 1 (made (step 1 29 Store 0 0) ∷ made (step 1 31 Load 0 5) ∷ made (step 1 30 Load 0 0x80000000) ∷ made (step 1 29 Load 0 2) ∷ []) (Start 1 0x80000000 5) → ⊥
