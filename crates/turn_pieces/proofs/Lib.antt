@@ -1,0 +1,15 @@
+pub mod Sections
+pub mod Writers
+pub mod Offers
+pub mod Calls
+pub mod Accesses
+pub mod Chains
+pub mod KeptWalks
+pub mod Unmarked
+pub mod Rows
+pub mod Wrong
+pub mod TwoHarts
+pub mod AtLimit
+mod Stale
+mod Moved
+mod Script

@@ -1,0 +1,15 @@
+pub mod Shared
+pub mod Doing
+pub mod Folds
+pub mod Draws
+pub mod Log
+pub mod Kept
+pub mod Requests
+pub mod Marks
+pub mod Snapshots
+pub mod Owed
+pub mod Right
+pub mod KeptWalks
+pub mod Grows
+pub mod Writers
+pub mod Laws

@@ -1,0 +1,2 @@
+pub mod WalkLoads
+pub mod KeptWalks
