@@ -1,0 +1,12 @@
+//! Texts of programs: `disassemble` lists an image, an instruction a line.
+#![tactic(auto)]
+
+mod listing;
+mod mnemonic;
+mod operands;
+mod parts;
+mod spelling;
+
+pub use listing::disassemble;
+pub use mnemonic::Mnemonic;
+pub use operands::{Operands, Parts};
