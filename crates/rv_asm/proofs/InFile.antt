@@ -35,7 +35,7 @@ all_in_file : (file : List ℕ) (pages : ℕ) (hs : List Header) → pages ≤ 4
 all_in_file file pages [] few passes = tt
 all_in_file file pages (h ∷ hs) few passes =
     let both = both_pass (first_failed (place_checks (length file) pages h)) (first_failed (all_place_checks (length file) pages hs))
-      (sym (failed_append (place_checks (length file) pages h) (all_place_checks (length file) pages hs)) ∙ passes) in
+    (sym (failed_append (place_checks (length file) pages h) (all_place_checks (length file) pages hs)) ∙ passes) in
     (one_in_file file pages h few both.0, all_in_file file pages hs few both.1)
 
 pub parts_in_file : (file : List ℕ) (image : Loaded) → IsImageOf file 4096 image → AreInFile file image.parts
