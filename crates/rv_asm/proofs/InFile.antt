@@ -9,7 +9,7 @@ use Rattle.elf_load.specs.Loaded.{Loaded}
 use Rattle.elf_load.specs.ImageOf.{Check, check, first_failed, head_checks, place_checks, all_place_checks, checks, placed, overlaps, start_of, is_bad_start}
 use Rattle.elf_load.specs.ImageOf.{part_of, read_image, answer_to, image_of, IsImageOf}
 use Rattle.elf_load.proofs.Checks.{failed_append, both_pass}
-use Rattle.rv_asm.specs.Listing.{IsInFile, AreInFile}
+use Rattle.rv_asm.specs.Lists.{IsInFile, AreInFile}
 
 answered : (o : Option BadImage) (l image : Loaded) → answer_to o l ≡ Ok image → (o ≡ None) × (l ≡ image)
 answered None l image e = (refl, cc)

@@ -6,7 +6,8 @@ use Rattle.elf_load.specs.declared.image.Part.{Part}
 use Rattle.elf_load.specs.Header.{number_at}
 use Rattle.rv64_decode.specs.declared.instruction.Instr.{Instr}
 use Rattle.rv64_decode.specs.Encoding.{Decodes}
-use Rattle.rv_asm.specs.Listing.{word_line, rest_line, IsListed, IsListing, Lists, ListsParts, AreInFile}
+use Rattle.rv_asm.specs.Listing.{word_line, rest_line, IsListed, IsListing}
+use Rattle.rv_asm.specs.Lists.{Lists, ListsParts, AreInFile}
 
 -- whatever lists the bytes that are left lists all of them
 abbrev pub LeadsTo : List ℕ → (at len place : ℕ) → (now : List ℕ) → (at' len' place' : ℕ) → (now' : List ℕ) → Type 0

@@ -1,5 +1,5 @@
 -- The listing of an image: a line for each word of its parts' file bytes.
-use Rattle.std.specs.Prelude.{◌≡◌, ℕ, zero, suc, ℤ, pos, negsuc, ◌+◌, ◌-◌, ◌/◌, ◌%◌, ◌^◌, ◌<◌, ◌≤◌, Bool, true, false, nat_lt, if◌then◌else◌, List, [], ◌∷◌, ◌++◌, length, slice_range}
+use Rattle.std.specs.Prelude.{ℕ, zero, suc, ℤ, pos, negsuc, ◌+◌, ◌-◌, ◌/◌, ◌%◌, ◌^◌, ◌<◌, ◌≤◌, Bool, true, false, nat_lt, if◌then◌else◌, List, [], ◌∷◌, ◌++◌, slice_range}
 use Rattle.std.specs.Prelude.{Option, Some, None, codes, decimal}
 use Rattle.std.specs.Fmt.{digits, signed_decimal}
 use Rattle.elf_load.specs.declared.image.Part.{Part}
@@ -106,24 +106,3 @@ pub data IsListed (file : List ℕ) : (at len place : ℕ) → (text : List ℕ)
 pub data IsListing (file : List ℕ) : List Part → (text : List ℕ) → Type 0 where
   none : IsListing file [] []
   part : (p : Part) (parts : List Part) (text more : List ℕ) → IsListed file p.at p.len p.place text → IsListing file parts more → IsListing file (p ∷ parts) (text ++ more)
-
--- a text to which such lines were added
-pub record Lists (file : List ℕ) (at len place : ℕ) (old new : List ℕ) : Type 0 where
-  pub lines : List ℕ
-  pub is_listed : IsListed file at len place lines
-  pub is_new : new ≡ old ++ lines
-
-pub record ListsParts (file : List ℕ) (parts : List Part) (old new : List ℕ) : Type 0 where
-  pub lines : List ℕ
-  pub is_listing : IsListing file parts lines
-  pub is_new : new ≡ old ++ lines
-
--- parts whose bytes are the file's and lie in RAM
-pub record IsInFile (file : List ℕ) (p : Part) : Type 0 where
-  pub in_file : p.at + p.len ≤ length file
-  pub above : 2 ^ 31 ≤ p.place
-  pub below : p.place + p.len ≤ 2 ^ 32
-
-abbrev pub AreInFile : List ℕ → List Part → Type 0
-AreInFile file [] = Unit {0}
-AreInFile file (p ∷ parts) = IsInFile file p × AreInFile file parts

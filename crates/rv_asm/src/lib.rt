@@ -8,5 +8,3 @@ mod parts;
 mod spelling;
 
 pub use listing::disassemble;
-pub use mnemonic::Mnemonic;
-pub use operands::{Operands, Parts};

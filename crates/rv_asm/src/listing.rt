@@ -3,7 +3,8 @@ ghost use Rattle.std.specs.Prelude.{◌≡◌, ◌≤◌, ◌<◌, ◌+◌, ◌^
 ghost use Rattle.elf_load.specs.Header.{number_at};
 ghost use Rattle.elf_load.specs.ImageOf.{IsImageOf};
 ghost use Rattle.rv64_decode.specs.Encoding.{Decodes};
-ghost use Rattle.rv_asm.specs.Listing.{address, numbers_behind, numbers_text, parts_in, rest_line, word_line, IsListing, Lists, ListsParts, AreInFile};
+ghost use Rattle.rv_asm.specs.Listing.{address, numbers_behind, numbers_text, parts_in, rest_line, word_line, IsListing};
+ghost use Rattle.rv_asm.specs.Lists.{Lists, ListsParts, AreInFile};
 
 use crate::operands::Parts;
 use crate::parts::parts_of;

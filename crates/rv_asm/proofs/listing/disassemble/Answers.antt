@@ -1,7 +1,7 @@
 use Rattle.std.proofs.Common.{List, subst, sym}
 use Rattle.elf_load.specs.declared.image.Part.{Part}
 use Rattle.elf_load.specs.Loaded.{Loaded}
-use Rattle.rv_asm.specs.Listing.{AreInFile}
+use Rattle.rv_asm.specs.Lists.{AreInFile}
 use Rattle.rv_asm.proofs.InFile.{parts_in_file}
 use Rattle.rv_asm.proofs.listing.disassemble.Goals as goal
 

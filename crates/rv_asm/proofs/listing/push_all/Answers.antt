@@ -2,7 +2,7 @@ use Rattle.std.proofs.Common.{List, subst, sym, arith}
 use Rattle.std.specs.Prelude.{string_bytes}
 use Rattle.std.proofs.lemmas.List.{drop_all}
 use Rattle.elf_load.specs.declared.image.Part.{Part}
-use Rattle.rv_asm.specs.Listing.{ListsParts}
+use Rattle.rv_asm.specs.Lists.{ListsParts}
 use Rattle.rv_asm.proofs.Listed.{next_part, lists_no_part}
 use Rattle.rv_asm.proofs.listing.push_all.Goals as goal
 

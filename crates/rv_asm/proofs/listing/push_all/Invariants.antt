@@ -1,6 +1,6 @@
 use Rattle.std.proofs.Common.{◌≡◌, drop}
 use Rattle.std.specs.Prelude.{string_bytes}
-use Rattle.rv_asm.specs.Listing.{AreInFile}
+use Rattle.rv_asm.specs.Lists.{AreInFile}
 use Rattle.rv_asm.proofs.Listed.{LeadsToParts}
 use Rattle.rv_asm.proofs.listing.push_all.Given as goal
 

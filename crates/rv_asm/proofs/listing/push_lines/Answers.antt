@@ -2,7 +2,8 @@ use Rattle.std.proofs.Common.{◌≡◌, ◌+◌, ◌-◌, ℕ, ◌++◌, List, 
 use Rattle.std.specs.Prelude.{string_bytes, slice_range}
 use Rattle.rv64_decode.specs.Encoding.{Decodes}
 use Rattle.elf_load.specs.Header.{number_at}
-use Rattle.rv_asm.specs.Listing.{word_line, rest_line, Lists}
+use Rattle.rv_asm.specs.Listing.{word_line, rest_line}
+use Rattle.rv_asm.specs.Lists.{Lists}
 use Rattle.rv_asm.proofs.Listed.{lists_word, lists_rest, lists_nothing}
 use Rattle.rv_asm.proofs.listing.push_lines.Goals as goal
 
