@@ -1,22 +1,24 @@
 #!/usr/bin/env python3
-"""Compares `encode` and `decode` with GNU binutils' assembler, over every instruction line with operands at their edges.
+"""Compares `tlbvm dis` with GNU binutils' assembler, over every instruction line with operands at their edges.
 
-The assembler makes a word of each line of a listing; `decode_words` reads the word back, and prints the word that `encode`
-makes of it and the instruction as text, which has to be the line again. Then words with random operands: where `decode`
-finds an instruction, the assembler makes the word again of its text. Skipped, with status 0, where there are no binutils
-for RISC-V.
+The assembler makes a word of each line; `dis` lists the words, and its lines have to be those again, with absolute targets.
+Then words with random operands: where `dis` finds an instruction, the assembler makes the word again of its text. Skipped,
+with status 0, where there are no binutils for RISC-V (Debian has them as binutils-riscv64-linux-gnu).
 """
 import itertools
 import os
 import pathlib
 import random
+import re
 import shutil
+import struct
 import subprocess
 import sys
 import tempfile
 
 TOP = pathlib.Path(__file__).resolve().parent.parent
-PROGRAM = TOP / "crates/decode_words"
+PROGRAM = TOP / "tlbvm"
+BASE = 0x80000000
 PREFIXES = ["riscv64-unknown-elf-", "riscv64-linux-gnu-", "riscv64-elf-"]
 ARCHITECTURE = "-march=rv64ima_zicsr_zifencei"
 REGISTERS = [0, 1, 15, 31]
@@ -36,13 +38,8 @@ def registers_and(count, last):
     return [(*choice, value) for choice in itertools.product(REGISTERS, repeat=count) for value in last]
 
 
-def fence_bits(letters):
-    """A fence's set of accesses: I, O, R and W are bits 3 to 0."""
-    return sum(8 >> "iorw".index(letter) for letter in letters)
-
-
 def listing():
-    """Pairs of the assembler's text and of what `decode_words` is to print."""
+    """Pairs of the assembler's text and of what `dis` is to list, but for its target."""
     lines = []
     for name in ["lui", "auipc"]:
         lines += [f"{name} x{d}, {z:#x}" for d, z in registers_and(1, [0, 1, 0x7FFFF, 0x80000, 0xFFFFF])]
@@ -70,12 +67,30 @@ def listing():
             lines += [f"{name}{width}{order} x{d}, x{q}, (x{r})" for d, q, r in registers_and(2, REGISTERS)]
     pairs = [(line, line) for line in lines]
     for before, behind in itertools.product(FENCE_SETS, repeat=2):
-        bits = 16 * fence_bits(before) + fence_bits(behind)
-        pairs.append((f"fence {before}, {behind}", f".insn i 0x0f, 0, x0, x0, {bits}"))
-    # fm is 8, and each set has R and W
-    pairs.append(("fence.tso", f".insn i 0x0f, 0, x0, x0, {0x833 - 0x1000}"))
-    pairs.append(("fence.i", ".insn i 0x0f, 1, x0, x0, 0"))
+        # one fence has a form of its own; the others are words
+        text = "fence" if before == behind == "iorw" else None
+        pairs.append((f"fence {before}, {behind}", text))
+    pairs.append(("fence.tso", None))
+    pairs.append(("fence.i", "fence.i"))
     return pairs
+
+
+def listed(place, word, text):
+    """The line of a word at a place, with the target that lies at the text's distance."""
+    if text is None:
+        text = f".word 0x{word:08x}"
+    text = re.sub(r"\.([+-]\d+)$", lambda found: f"{place + int(found[1]):#x}", text)
+    return f"{place:08x}: {word:08x} {text}"
+
+
+def relative(place, text):
+    """The same text with the distance of its target, as the assembler takes it."""
+    if text == "fence":
+        return "fence iorw, iorw"
+    if re.match(r"(jal|b[a-z]+) ", text):
+        front, target = text.rsplit(", ", 1)
+        return f"{front}, .{int(target, 16) - place:+}"
+    return text
 
 
 class Assembler:
@@ -96,19 +111,16 @@ class Assembler:
         return words
 
 
-def build():
-    """Proves and builds the program, where that isn't done."""
-    os.environ["PATH"] += ":/opt/rattle/bin"
-    for folder, command in [(TOP / "crates/rv64_decode", ["check"]), (PROGRAM, ["run", "--backend", "llvm"])]:
-        done = subprocess.run(["rt", *command], cwd=folder, stdin=subprocess.DEVNULL, capture_output=True, text=True)
-        if done.returncode != 0:
-            sys.exit(done.stdout + done.stderr)
-
-
-def read_back(words):
-    """What `decode_words` prints of each word."""
-    text = "".join(f"{word:08x}\n" for word in words)
-    done = subprocess.run([PROGRAM / "out/decode_words"], input=text, capture_output=True, text=True, check=True)
+def read_back(folder, words):
+    """The lines of `dis` for a program of these words."""
+    code = struct.pack(f"<{len(words)}I", *words)
+    header = b"\x7fELF\x02\x01\x01" + bytes(9) + struct.pack("<HHIQQQIHHHHHH", 2, 243, 1, BASE, 64, 0, 0, 64, 56, 1, 0, 0, 0)
+    segment = struct.pack("<IIQQQQQQ", 1, 7, 120, BASE, BASE, len(code), len(code), 1)
+    path = pathlib.Path(folder) / "words.elf"
+    path.write_bytes(header + segment + code)
+    done = subprocess.run([PROGRAM, "dis", path], capture_output=True, text=True)
+    if done.returncode != 0:
+        sys.exit(done.stdout[:1000] + done.stderr)
     return done.stdout.splitlines()
 
 
@@ -134,14 +146,14 @@ def main():
     if prefix is None:
         print("yardstick: skipped: there are no GNU binutils for RISC-V")
         return
-    build()
     with tempfile.TemporaryDirectory() as folder:
         assembler = Assembler(prefix, folder)
         pairs = listing()
         words = assembler.words([line for line, _ in pairs])
-        wanted = [f"{word:08x} {text}" for word, (_, text) in zip(words, pairs)]
-        compare("the listing", list(zip(wanted, read_back(words))))
-        found = [line.split(" ", 1) for line in read_back(random_words()) if not line.endswith(" none")]
+        wanted = [listed(BASE + 4 * at, word, text) for at, (word, (_, text)) in enumerate(zip(words, pairs))]
+        compare("the listing", list(zip(wanted, read_back(folder, words))))
+        split = [line.split(" ", 2) for line in read_back(folder, random_words())]
+        found = [(word, relative(int(place[:-1], 16), text)) for place, word, text in split if not text.startswith(".word")]
         words = assembler.words([text for _, text in found])
         compare("random words", [(word, f"{made:08x}") for (word, _), made in zip(found, words)])
 

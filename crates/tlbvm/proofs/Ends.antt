@@ -1,6 +1,6 @@
 -- The machine's turns are one run, and what was written of it is the cause of the answer.
 use Rattle.std.proofs.Common.{inl, inr, ◌≡◌, refl, ℕ, ◌++◌, List, [], map, Some, None, Option, ap, sym, ◌∙◌, subst}
-use Rattle.std.specs.Prelude.{◌⊎◌, Bool, IsTrue, Result, Ok, Err}
+use Rattle.std.specs.Prelude.{◌⊎◌, Bool, false, IsTrue, Result, Ok, Err}
 use Rattle.std.proofs.lemmas.List.{append-nil}
 use Rattle.machine_model.specs.declared.reason.Reason.{Reason}
 use Rattle.machine_model.specs.Event.{Event}
@@ -14,12 +14,18 @@ use Rattle.ref_machine.specs.Shows.{Shows, resting}
 use Rattle.ref_machine.specs.Ran.{GoesOn, Ran}
 use Rattle.ref_machine.proofs.Runs.{first_only}
 use Rattle.tlbvm.specs.declared.status.Status.{Status}
-use Rattle.tlbvm.specs.Intake.{Input, intake_of}
-use Rattle.tlbvm.specs.Refused.{IsRefused, IsStarted}
+use Rattle.tlbvm.specs.Intake.{Task, Runs, Lists, Intake, Name, Reads, Goes, Input, plain_input, ComesTo, on_image, on_order, intake_of, plain_intake, dis_intake, most_pages}
+use Rattle.elf_load.specs.Loaded.{Loaded}
+use Rattle.elf_load.specs.declared.image.BadImage.{BadImage}
+use Rattle.elf_load.specs.ImageOf.{image_of}
+use Rattle.tlbvm.specs.declared.items.Item.{Item}
+use Rattle.tlbvm.specs.Items.{order_of}
+use Rattle.tlbvm.specs.Options.{Line, Plain, Dis, Asked, runs_machine}
+use Rattle.tlbvm.specs.Refused.{IsRefused, IsListed, IsStarted}
 use Rattle.tlbvm.specs.Report.{report_from}
 use Rattle.tlbvm.specs.Status.{status_for, is_end, is_refusal}
-use Rattle.tlbvm.specs.Call.{Call, CameTo, Gets, GetsNothing, GetsPart, RunOf, IsPaced, due_out, due_log, HasEnded, IsCutShort}
-use Rattle.tlbvm.specs.Answers.{IsAnswered, IsComplete, Answers, TookAll, IsOneRun}
+use Rattle.tlbvm.specs.Call.{Call, CameTo, Gets, GetsNothing, GetsPart, RunOf, IsPaced, due_out, due_log, HasEnded, IsCutShort, ListingOf, HasListed, IsListingCut}
+use Rattle.tlbvm.specs.Answers.{EndsBy, IsCut, IsAnswered, IsComplete, Answers, TookAll, IsOneRun, IsOneListing}
 use Rattle.tlbvm.proofs.Intakes.{must}
 use Rattle.tlbvm.proofs.Quiet.{plain_quiet}
 
@@ -91,24 +97,34 @@ ended_short call regs q reason e is cut = record { ran = e.ran; cut = go cut }
 -- a machine that has ended, by its first reason
 pub ended : (call : Call) (reason : Option Reason) → HasEnded reason call → IsAnswered (status_for reason) call
 ended call None e = e
-ended call (Some Reason.Pass) e = e
+ended call (Some Reason.Pass) e = inl e
 ended call (Some (Reason.Fail code)) e = e
 ended call (Some (Reason.Limit hart)) e = e
 ended call (Some Reason.OutFull) e = e
 ended call (Some Reason.AllStopped) e = e
 ended call (Some Reason.Stopped) e = e
 
-pub ended_by : (call : Call) (status : Status) (reason : Option Reason) → status ≡ status_for reason → IsAnswered status call → HasEnded reason call
+pub ended_by : (call : Call) (status : Status) (reason : Option Reason) → status ≡ status_for reason → IsAnswered status call → EndsBy reason call
 ended_by call status reason is answered = go reason (subst (λ s. IsAnswered s call) is answered)
   where
-    go : (r : Option Reason) → IsAnswered (status_for r) call → HasEnded r call
-    go None e = e
+    go : (r : Option Reason) → IsAnswered (status_for r) call → EndsBy r call
+    go None e = inl e
     go (Some Reason.Pass) e = e
-    go (Some (Reason.Fail code)) e = e
-    go (Some (Reason.Limit hart)) e = e
-    go (Some Reason.OutFull) e = e
-    go (Some Reason.AllStopped) e = e
-    go (Some Reason.Stopped) e = e
+    go (Some (Reason.Fail code)) e = inl e
+    go (Some (Reason.Limit hart)) e = inl e
+    go (Some Reason.OutFull) e = inl e
+    go (Some Reason.AllStopped) e = inl e
+    go (Some Reason.Stopped) e = inl e
+
+-- a listing that was written, or that was cut short
+abbrev listing_of : (call : Call) (text : List ℕ) → IsListed call.names (intake_of call.line) text → ListingOf call
+listing_of call text l = record { file = l.file; image = l.image; came = l.came; text = text; is_listing = l.is_listing }
+
+pub listed_whole : (call : Call) (text : List ℕ) → IsListed call.names (intake_of call.line) text → Gets call.out text → GetsNothing call.log → HasListed call
+listed_whole call text l out log = record { listing = listing_of call text l; out_gets = out; log_gets = log }
+
+pub listed_short : (call : Call) (text : List ℕ) → IsListed call.names (intake_of call.line) text → GetsPart call.out text → GetsNothing call.log → IsListingCut call
+listed_short call text l out log = record { listing = listing_of call text l; out_gets = out; log_gets = log }
 
 -- THE ANSWERS
 
@@ -133,9 +149,15 @@ refused call status (inr came) = go status came.0 came.1
     go Status.AllStopped is c = cc
     go Status.Stopped is c = cc
 
--- what a call came to: want of memory, a refusal, a machine's end, or a sink that failed
+-- what a call came to: want of memory, a refusal, a machine's end, a sink that failed, or a listing that was written
 abbrev Origin : Status → Call → Type 0
-Origin status call = (status ≡ Status.NoMemory) ⊎ (CameTo (Err status) call ⊎ (((reason : Option Reason) × (status ≡ status_for reason) × HasEnded reason call) ⊎ IsCutShort call))
+Origin status call =
+    (status ≡ Status.NoMemory) ⊎ (CameTo (Err status) call ⊎ (((reason : Option Reason) × (status ≡ status_for reason) × HasEnded reason call) ⊎ (IsCut call
+    ⊎ ((status ≡ Status.Done) × HasListed call))))
+
+done_origin : (call : Call) → EndsBy (Some Reason.Pass) call → Origin Status.Done call
+done_origin call (inl e) = inr (inr (inl (Some Reason.Pass, refl, e)))
+done_origin call (inr e) = inr (inr (inr (inr (refl, e.1))))
 
 origin : (call : Call) (status : Status) → IsAnswered status call → Origin status call
 origin call Status.Usage cause = absurd cause
@@ -144,8 +166,8 @@ origin call Status.TooLong came = inr (inl came)
 origin call (Status.BadImage kind) came = inr (inl came)
 origin call (Status.BadOrder line) came = inr (inl came)
 origin call Status.NoMemory cause = inl refl
-origin call Status.WriteFault cut = inr (inr (inr cut))
-origin call Status.Done e = inr (inr (inl (Some Reason.Pass, refl, e)))
+origin call Status.WriteFault cut = inr (inr (inr (inl cut)))
+origin call Status.Done e = done_origin call e
 origin call Status.OrderEnd e = inr (inr (inl (None, refl, e)))
 origin call (Status.GuestFailed code) e = inr (inr (inl (Some (Reason.Fail code), refl, e)))
 origin call (Status.Limit hart) e = inr (inr (inl (Some (Reason.Limit hart), refl, e)))
@@ -169,21 +191,91 @@ refused_by call Status.OutFull is cause = cc
 refused_by call Status.AllStopped is cause = cc
 refused_by call Status.Stopped is cause = cc
 
+-- A line that runs a machine comes to no listing, and one that doesn't to no machine.
+task_no_error : (task : Task) (status : Status) → Ok task ≡ Err status → ⊥
+task_no_error task status e = cc
+
+no_same : (file : List ℕ) (image : Loaded) (input : Input) → Lists file image ≡ Runs input → ⊥
+no_same file image input e = cc
+
+abbrev came_ok : Task → Result Task Status
+came_ok task = Ok task
+
+same_ok : (s t : Task) → came_ok s ≡ came_ok t → s ≡ t
+same_ok s t e = cc
+
+order_lists_not : (names : List ℕ → Name) (order : Result (List Item) ℕ) (input : List Item → Input) (file : List ℕ) (image : Loaded)
+    → ComesTo names (on_order order (λ items. Goes (Runs (input items)))) (Ok (Lists file image)) → ⊥
+order_lists_not names (Err line) input file image e = task_no_error (Lists file image) (Status.BadOrder line) e
+order_lists_not names (Ok items) input file image e = no_same file image (input items) (same_ok (Lists file image) (Runs (input items)) e)
+
+image_lists_not : (names : List ℕ → Name) (found : Result Loaded BadImage) (order : List ℕ) (harts : ℕ) (input : Loaded → List Item → Input) (file : List ℕ) (image : Loaded)
+    → ComesTo names (on_image found (λ loaded. Reads order (λ text. on_order (order_of text harts) (λ items. Goes (Runs (input loaded items)))))) (Ok (Lists file image)) → ⊥
+image_lists_not names (Err kind) order harts input file image e = task_no_error (Lists file image) (Status.BadImage kind) e
+image_lists_not names (Ok loaded) order harts input file image (inl e) = task_no_error (Lists file image) Status.ReadFault e.0
+image_lists_not names (Ok loaded) order harts input file image (inr (inl e)) = task_no_error (Lists file image) Status.TooLong e.0
+image_lists_not names (Ok loaded) order harts input file image (inr (inr e)) = order_lists_not names (order_of e.0 harts) (input loaded) file image e.2
+
+no_listing : (names : List ℕ → Name) (elf order : List ℕ) (asked : Asked) (file : List ℕ) (image : Loaded) → ComesTo names (plain_intake elf order asked) (Ok (Lists file image)) → ⊥
+no_listing names elf order asked file image (inl e) = task_no_error (Lists file image) Status.ReadFault e.0
+no_listing names elf order asked file image (inr (inl e)) = task_no_error (Lists file image) Status.TooLong e.0
+no_listing names elf order asked file image (inr (inr e)) =
+    image_lists_not names (image_of e.0 asked.pages) order asked.harts (λ loaded items. plain_input asked e.0 loaded items) file image e.2
+
+image_runs_not : (names : List ℕ → Name) (found : Result Loaded BadImage) (bytes : List ℕ) (input : Input) → ComesTo names (on_image found (λ loaded. Goes (Lists bytes loaded))) (Ok (Runs input)) → ⊥
+image_runs_not names (Err kind) bytes input e = task_no_error (Runs input) (Status.BadImage kind) e
+image_runs_not names (Ok loaded) bytes input e = no_same bytes loaded input (sym (same_ok (Runs input) (Lists bytes loaded) e))
+
+no_machine : (names : List ℕ → Name) (elf : List ℕ) (input : Input) → ComesTo names (dis_intake elf) (Ok (Runs input)) → ⊥
+no_machine names elf input (inl e) = task_no_error (Runs input) Status.ReadFault e.0
+no_machine names elf input (inr (inl e)) = task_no_error (Runs input) Status.TooLong e.0
+no_machine names elf input (inr (inr e)) = image_runs_not names (image_of e.0 most_pages) e.0 input e.2
+
+runs_lists_not : (names : List ℕ → Name) (line : Line) (file : List ℕ) (image : Loaded) → IsTrue (runs_machine line) → ComesTo names (intake_of line) (Ok (Lists file image)) → ⊥
+runs_lists_not names (Plain elf order asked) file image is came = no_listing names elf order asked file image came
+runs_lists_not names (Dis elf) file image is came = cc
+
+lists_runs_not : (names : List ℕ → Name) (line : Line) (input : Input) → runs_machine line ≡ false → ComesTo names (intake_of line) (Ok (Runs input)) → ⊥
+lists_runs_not names (Plain elf order asked) input is came = cc
+lists_runs_not names (Dis elf) input is came = no_machine names elf input came
+
+-- what a machine's end or a listing came of
+abbrev Wrote : Call → Type 0
+Wrote call = (((reason : Option Reason) × HasEnded reason call) ⊎ IsCutShort call) ⊎ (HasListed call ⊎ IsListingCut call)
+
+wrote : (call : Call) (status : Status) → IsTrue (is_end status) → IsAnswered status call → Wrote call
+wrote call Status.WriteFault is (inl cut) = inl (inr cut)
+wrote call Status.WriteFault is (inr cut) = inr (inr cut)
+wrote call Status.Done is (inl e) = inl (inl (Some Reason.Pass, e))
+wrote call Status.Done is (inr e) = inr (inl e.1)
+wrote call Status.OrderEnd is e = inl (inl (None, e))
+wrote call (Status.GuestFailed code) is e = inl (inl (Some (Reason.Fail code), e))
+wrote call (Status.Limit hart) is e = inl (inl (Some (Reason.Limit hart), e))
+wrote call Status.OutFull is e = inl (inl (Some Reason.OutFull, e))
+wrote call Status.AllStopped is e = inl (inl (Some Reason.AllStopped, e))
+wrote call Status.Stopped is e = inl (inl (Some Reason.Stopped, e))
+wrote call Status.Usage is cause = cc
+wrote call Status.ReadFault is cause = cc
+wrote call Status.TooLong is cause = cc
+wrote call (Status.BadImage kind) is cause = cc
+wrote call (Status.BadOrder line) is cause = cc
+wrote call Status.NoMemory is cause = cc
+
 pub one_run : (call : Call) (status : Status) → IsTrue (is_end status) → IsAnswered status call → IsOneRun call
-one_run call Status.WriteFault is cut = inr cut
-one_run call Status.Done is e = inl (Some Reason.Pass, e)
-one_run call Status.OrderEnd is e = inl (None, e)
-one_run call (Status.GuestFailed code) is e = inl (Some (Reason.Fail code), e)
-one_run call (Status.Limit hart) is e = inl (Some (Reason.Limit hart), e)
-one_run call Status.OutFull is e = inl (Some Reason.OutFull, e)
-one_run call Status.AllStopped is e = inl (Some Reason.AllStopped, e)
-one_run call Status.Stopped is e = inl (Some Reason.Stopped, e)
-one_run call Status.Usage is cause = cc
-one_run call Status.ReadFault is cause = cc
-one_run call Status.TooLong is cause = cc
-one_run call (Status.BadImage kind) is cause = cc
-one_run call (Status.BadOrder line) is cause = cc
-one_run call Status.NoMemory is cause = cc
+one_run call status is answered runs = go (wrote call status is answered)
+  where
+    go : Wrote call → ((reason : Option Reason) × HasEnded reason call) ⊎ IsCutShort call
+    go (inl e) = e
+    go (inr (inl e)) = absurd (runs_lists_not call.names call.line e.listing.file e.listing.image runs e.listing.came)
+    go (inr (inr e)) = absurd (runs_lists_not call.names call.line e.listing.file e.listing.image runs e.listing.came)
+
+pub one_listing : (call : Call) (status : Status) → IsTrue (is_end status) → IsAnswered status call → IsOneListing call
+one_listing call status is answered lists = go (wrote call status is answered)
+  where
+    go : Wrote call → HasListed call ⊎ IsListingCut call
+    go (inl (inl e)) = absurd (lists_runs_not call.names call.line e.1.ran.input lists e.1.ran.came)
+    go (inl (inr e)) = absurd (lists_runs_not call.names call.line e.ran.input lists e.ran.came)
+    go (inr e) = e
 
 -- Completeness: without faults the call came to what is due, and to nothing else.
 cut_none : (call : Call) → TookAll call → IsCutShort call → ⊥
@@ -196,11 +288,15 @@ cut_none call took cut = go cut.cut
 pub complete : (call : Call) (status : Status) → IsAnswered status call → IsComplete status call
 complete call status answered faultless due is = go (origin call status answered)
   where
-    same : (came : Result Input Status) → CameTo came call → came ≡ due
+    same : (came : Result Task Status) → CameTo came call → came ≡ due
     same came comes = must call.names (intake_of call.line) came due faultless is comes
 
     go : Origin status call → (status ≡ Status.NoMemory) ⊎ Answers due status call
     go (inl want) = inl want
     go (inr (inl came)) = inr (subst (λ d. Answers d status call) (same (Err status) came) refl)
-    go (inr (inr (inl end))) = inr (subst (λ d. Answers d status call) (same (Ok end.2.ran.input) end.2.ran.came) (λ took. end))
-    go (inr (inr (inr cut))) = inr (subst (λ d. Answers d status call) (same (Ok cut.ran.input) cut.ran.came) (λ took. absurd (cut_none call took cut)))
+    go (inr (inr (inl end))) = inr (subst (λ d. Answers d status call) (same (Ok (Runs end.2.ran.input)) end.2.ran.came) (λ took. end))
+    go (inr (inr (inr (inl (inl cut))))) = inr (subst (λ d. Answers d status call) (same (Ok (Runs cut.ran.input)) cut.ran.came) (λ took. absurd (cut_none call took cut)))
+    go (inr (inr (inr (inl (inr cut))))) =
+        inr (subst (λ d. Answers d status call) (same (Ok (Lists cut.listing.file cut.listing.image)) cut.listing.came) (λ took. absurd (took.0 cut.out_gets.failed)))
+    go (inr (inr (inr (inr listed)))) =
+        inr (subst (λ d. Answers d status call) (same (Ok (Lists listed.1.listing.file listed.1.listing.image)) listed.1.listing.came) (λ took. listed))

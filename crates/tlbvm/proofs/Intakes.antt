@@ -10,7 +10,7 @@ use Rattle.tlbvm.specs.declared.items.Item.{Item}
 use Rattle.tlbvm.specs.declared.status.Status.{Status}
 use Rattle.tlbvm.specs.Status.{is_refusal}
 use Rattle.tlbvm.specs.Refused.{IsUnread, IsRefused}
-use Rattle.tlbvm.specs.Intake.{Input, Name, Intake, Reads, Refuses, Goes, WereRead, ComesTo, IsFaultless, settled, on_image, on_order}
+use Rattle.tlbvm.specs.Intake.{Task, Name, Intake, Reads, Refuses, Goes, WereRead, ComesTo, IsFaultless, settled, on_image, on_order}
 
 -- a count that rose since a later moment rose since an earlier one
 pub rose_since : (early late end : ℕ) → early ≤ late → Rose late end → Rose early end
@@ -27,7 +27,7 @@ unread_since name late status same le end (inr (inr (is, long))) = inr (inr (is,
 
 -- THE PARTS OF AN INTAKE
 
-abbrev refusing : Status → Result Input Status
+abbrev refusing : Status → Result Task Status
 refusing s = Err s
 
 err_same : (s t : Status) → s ≡ t → refusing s ≡ refusing t
@@ -38,7 +38,7 @@ unread names name next status (inl want) = inl want
 unread names name next status (inr (inl (is, failed))) = inr (subst (λ s. IsTrue (is_refusal s)) (sym is) refl, inl (err_same status Status.ReadFault is, failed))
 unread names name next status (inr (inr (is, long))) = inr (subst (λ s. IsTrue (is_refusal s)) (sym is) refl, inr (inl (err_same status Status.TooLong is, long)))
 
-pub read_on : (names : List ℕ → Name) (name : List ℕ) (next : List ℕ → Intake) (bytes : List ℕ) (came : Result Input Status) → WereRead (names name) bytes → ComesTo names (next bytes) came
+pub read_on : (names : List ℕ → Name) (name : List ℕ) (next : List ℕ → Intake) (bytes : List ℕ) (came : Result Task Status) → WereRead (names name) bytes → ComesTo names (next bytes) came
     → ComesTo names (Reads name next) came
 read_on names name next bytes came read rest = inr (inr (bytes, read, rest))
 
@@ -50,7 +50,7 @@ refused_on names name next bytes status read (inr rest) = inr (rest.0, read_on n
 pub image_refused : (names : List ℕ → Name) (image : Result Loaded BadImage) (kind : BadImage) (next : Loaded → Intake) → image ≡ Err kind → IsRefused names (on_image image next) (Status.BadImage kind)
 image_refused names image kind next is = inr (refl, subst (λ i. ComesTo names (on_image i next) (Err (Status.BadImage kind))) (sym is) refl)
 
-pub image_goes : (names : List ℕ → Name) (image : Result Loaded BadImage) (loaded : Loaded) (next : Loaded → Intake) (came : Result Input Status) → image ≡ Ok loaded → ComesTo names (next loaded) came
+pub image_goes : (names : List ℕ → Name) (image : Result Loaded BadImage) (loaded : Loaded) (next : Loaded → Intake) (came : Result Task Status) → image ≡ Ok loaded → ComesTo names (next loaded) came
     → ComesTo names (on_image image next) came
 image_goes names image loaded next came is rest = subst (λ i. ComesTo names (on_image i next) came) (sym is) rest
 
@@ -62,7 +62,7 @@ image_on names image loaded next status is (inr rest) = inr (rest.0, image_goes 
 pub order_refused : (names : List ℕ → Name) (order : Result (List Item) ℕ) (line : ℕ) (next : List Item → Intake) → order ≡ Err line → IsRefused names (on_order order next) (Status.BadOrder line)
 order_refused names order line next is = inr (refl, subst (λ o. ComesTo names (on_order o next) (Err (Status.BadOrder line))) (sym is) refl)
 
-pub order_goes : (names : List ℕ → Name) (order : Result (List Item) ℕ) (items : List Item) (next : List Item → Intake) (came : Result Input Status) → order ≡ Ok items → ComesTo names (next items) came
+pub order_goes : (names : List ℕ → Name) (order : Result (List Item) ℕ) (items : List Item) (next : List Item → Intake) (came : Result Task Status) → order ≡ Ok items → ComesTo names (next items) came
     → ComesTo names (on_order order next) came
 order_goes names order items next came is rest = subst (λ o. ComesTo names (on_order o next) came) (sym is) rest
 
@@ -72,19 +72,19 @@ same_some : {A : Type 0} (x y : A) → Some x ≡ Some y → x ≡ y
 same_some x y e = cc
 
 -- without faults it comes to nothing else
-pub must : (names : List ℕ → Name) (intake : Intake) (came due : Result Input Status) → IsFaultless names intake → settled names intake ≡ Some due → ComesTo names intake came → came ≡ due
+pub must : (names : List ℕ → Name) (intake : Intake) (came due : Result Task Status) → IsFaultless names intake → settled names intake ≡ Some due → ComesTo names intake came → came ≡ due
 must names (Refuses status) came due faultless is comes = comes ∙ same_some (Err status) due is
-must names (Goes input) came due faultless is comes = comes ∙ same_some (Ok input) due is
+must names (Goes task) came due faultless is comes = comes ∙ same_some (Ok task) due is
 must names (Reads name next) came due faultless is comes = go (names name).told refl is comes (λ bytes. must names (next bytes) came due)
   where
     Rest : Type 0
     Rest = (bytes : List ℕ) → IsFaultless names (next bytes) → settled names (next bytes) ≡ Some due → ComesTo names (next bytes) came → came ≡ due
 
-    left : Option (List ℕ) → Option (Result Input Status)
+    left : Option (List ℕ) → Option (Result Task Status)
     left None = None
     left (Some bytes) = if nat_le (length bytes) MAX_FILE then settled names (next bytes) else Some (Err Status.TooLong)
 
-    none_due : (d : Result Input Status) → None ≡ Some d → ⊥
+    none_due : (d : Result Task Status) → None ≡ Some d → ⊥
     none_due d e = cc
 
     long : (told : List ℕ) (b : Bool) → nat_le (length told) MAX_FILE ≡ b → MAX_FILE < length told

@@ -2,6 +2,8 @@
 use Rattle.std.specs.Prelude.{◌≡◌, ◌⊎◌, ℕ, ◌<◌, List, length, take, Option, IfSome, Result, Ok}
 use Rattle.std.specs.Io.KnownBytes.{Appends}
 use Rattle.vm_io.specs.Faults.{Rose}
+use Rattle.elf_load.specs.Loaded.{Loaded}
+use Rattle.rv_asm.specs.Listing.{IsListing}
 use Rattle.machine_model.specs.declared.reason.Reason.{Reason}
 use Rattle.machine_model.specs.Event.{Event}
 use Rattle.machine_model.specs.State.{Setup}
@@ -11,7 +13,7 @@ use Rattle.machine_model.specs.Plain.{IsPlainRun}
 use Rattle.ref_machine.specs.Ran.{IsOnly}
 use Rattle.tlbvm.specs.declared.status.Status.{Status}
 use Rattle.tlbvm.specs.Options.{Line, line_of}
-use Rattle.tlbvm.specs.Intake.{Input, Pace, InOrder, Name, name_of, intake_of, ComesTo}
+use Rattle.tlbvm.specs.Intake.{Input, Task, Runs, Lists, Pace, InOrder, Name, name_of, intake_of, ComesTo}
 use Rattle.tlbvm.specs.Report.{report_of}
 
 -- A sink before and behind a call: the bytes that it took, where they are told, and how often it failed.
@@ -59,7 +61,7 @@ abbrev pub OnLine : (Line → Call) → List (List ℕ) → (Call → Type 0) �
 OnLine calls words P = IfSome (line_of words) (λ line. P (calls line))
 
 -- what the call's reads and checks came to
-abbrev pub CameTo : Result Input Status → Call → Type 0
+abbrev pub CameTo : Result Task Status → Call → Type 0
 CameTo came call = ComesTo call.names (intake_of call.line) came
 
 -- THE RUN
@@ -77,7 +79,7 @@ pub record OneRun (input : Input) (run : List Event) : Type 0 where
 -- the one run of a call
 pub record RunOf (call : Call) : Type 0 where
   pub input : Input
-  pub came : CameTo (Ok input) call
+  pub came : CameTo (Ok (Runs input)) call
   pub run : List Event
   pub one_run : OneRun input run
 
@@ -99,3 +101,25 @@ pub record HasEnded (reason : Option Reason) (call : Call) : Type 0 where
 pub record IsCutShort (call : Call) : Type 0 where
   pub ran : RunOf call
   pub cut : (GetsPart call.out (due_out ran) × GetsNothing call.log) ⊎ (Gets call.out (due_out ran) × GetsPart call.log (due_log ran))
+
+-- THE LISTING
+
+-- the listing that a call makes
+pub record ListingOf (call : Call) : Type 0 where
+  pub file : List ℕ
+  pub image : Loaded
+  pub came : CameTo (Ok (Lists file image)) call
+  pub text : List ℕ
+  pub is_listing : IsListing file image.parts text
+
+-- `out` got it, and `log` nothing
+pub record HasListed (call : Call) : Type 0 where
+  pub listing : ListingOf call
+  pub out_gets : Gets call.out listing.text
+  pub log_gets : GetsNothing call.log
+
+-- `out` failed, and `log` got nothing
+pub record IsListingCut (call : Call) : Type 0 where
+  pub listing : ListingOf call
+  pub out_gets : GetsPart call.out listing.text
+  pub log_gets : GetsNothing call.log

@@ -10,7 +10,7 @@ use Rattle.machine_model.specs.State.{Setup}
 use Rattle.machine_model.specs.Image.{setup_of}
 use Rattle.tlbvm.specs.declared.items.Item.{Item}
 use Rattle.tlbvm.specs.declared.status.Status.{Status}
-use Rattle.tlbvm.specs.Options.{Asked, Line, Plain}
+use Rattle.tlbvm.specs.Options.{Asked, Line, Plain, Dis}
 use Rattle.tlbvm.specs.Items.{order_of}
 use Rattle.tlbvm.specs.Turns.{hart_turns, turns_of}
 
@@ -24,11 +24,16 @@ pub record Input : Type 0 where
   pub pace : Pace
   pub regs : Bool
 
+-- what a line does once its files are accepted: it runs a machine, or lists the image of a file
+pub data Task : Type 0 where
+  Runs : Input → Task
+  Lists : (file : List ℕ) → (image : Loaded) → Task
+
 -- A reading of files, one after another: how it goes on depends on what was read.
 pub data Intake : Type 0 where
   Reads : (name : List ℕ) → (List ℕ → Intake) → Intake
   Refuses : Status → Intake
-  Goes : Input → Intake
+  Goes : Task → Intake
 
 -- THE LINES
 
@@ -57,10 +62,19 @@ on_image (Ok image) next = next image
 abbrev pub plain_intake : (elf order : List ℕ) → Asked → Intake
 plain_intake elf order asked =
     Reads elf (λ file. on_image (image_of file asked.pages) (λ image.
-    Reads order (λ text. on_order (order_of text asked.harts) (λ items. Goes (plain_input asked file image items)))))
+    Reads order (λ text. on_order (order_of text asked.harts) (λ items. Goes (Runs (plain_input asked file image items))))))
+
+-- the most pages that a machine can have: an image is listed that one of these accepts
+abbrev pub most_pages : ℕ
+most_pages = 4096
+
+-- `dis ELF` reads and checks the ELF file.
+abbrev pub dis_intake : (elf : List ℕ) → Intake
+dis_intake elf = Reads elf (λ file. on_image (image_of file most_pages) (λ image. Goes (Lists file image)))
 
 abbrev pub intake_of : Line → Intake
 intake_of (Plain elf order asked) = plain_intake elf order asked
+intake_of (Dis elf) = dis_intake elf
 
 -- WHAT IT MAY COME TO
 
@@ -85,14 +99,14 @@ HasFailed name = Rose name.before name.behind
 abbrev pub IsTooLong : Name → Type 0
 IsTooLong name = IfSome name.told (λ told. MAX_FILE < length told)
 
--- the first read that failed or came to too many bytes, or the first check that refused; or the machine
-abbrev pub ComesTo : (List ℕ → Name) → Intake → Result Input Status → Type 0
+-- the first read that failed or came to too many bytes, or the first check that refused; or what is to be done
+abbrev pub ComesTo : (List ℕ → Name) → Intake → Result Task Status → Type 0
 ComesTo names (Reads name next) came =
     ((came ≡ Err Status.ReadFault) × HasFailed (names name))
     ⊎ (((came ≡ Err Status.TooLong) × IsTooLong (names name))
     ⊎ ((bytes : List ℕ) × WereRead (names name) bytes × ComesTo names (next bytes) came))
 ComesTo names (Refuses status) came = came ≡ Err status
-ComesTo names (Goes input) came = came ≡ Ok input
+ComesTo names (Goes task) came = came ≡ Ok task
 
 -- WHAT IT MUST COME TO
 
@@ -103,11 +117,11 @@ IsFaultless names (Reads name next) =
 IsFaultless names _ = Unit {0}
 
 -- then this must come of it, where all is told that is read
-abbrev pub settled : (List ℕ → Name) → Intake → Option (Result Input Status)
+abbrev pub settled : (List ℕ → Name) → Intake → Option (Result Task Status)
 settled names (Reads name next) =
     elim (names name).told [
       | None ↦ None
       | Some bytes ↦ if nat_le (length bytes) MAX_FILE then settled names (next bytes) else Some (Err Status.TooLong)
     ]
 settled names (Refuses status) = Some (Err status)
-settled names (Goes input) = Some (Ok input)
+settled names (Goes task) = Some (Ok task)

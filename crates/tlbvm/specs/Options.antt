@@ -1,5 +1,5 @@
 -- A command line: a command, its operands, and options, which stand at any place behind the command.
-use Rattle.std.specs.Prelude.{ℕ, Bool, true, false, not, ◌||◌, ◌==◌, nat_le, nat_lt, if◌then◌else◌, List, [], ◌∷◌, ◌++◌, length, Option, Some, None, codes, bytes_eq, unwrap_or}
+use Rattle.std.specs.Prelude.{ℕ, Bool, true, false, not, ◌&&◌, ◌||◌, ◌==◌, nat_le, nat_lt, if◌then◌else◌, List, [], ◌∷◌, ◌++◌, length, Option, Some, None, codes, bytes_eq, is_none, unwrap_or}
 use Rattle.std.specs.List.{before_first, after_first, list_any}
 use Rattle.std.specs.Option.{option_and_then, option_map}
 use Rattle.text_lines.specs.Number.{number_within}
@@ -14,6 +14,7 @@ pub record Asked : Type 0 where
 -- what a line says, by its command
 pub data Line : Type 0 where
   Plain : (elf order : List ℕ) (asked : Asked) → Line
+  Dis : (elf : List ℕ) → Line
 
 -- what was read so far
 pub record SoFar : Type 0 where
@@ -116,9 +117,26 @@ abbrev pub plain_from : (operands : List (List ℕ)) → Asked → Option Line
 plain_from (elf ∷ order ∷ []) asked = Some (Plain elf order asked)
 plain_from _ asked = None
 
+-- there is no option
+abbrev pub has_no_option : SoFar → Bool
+has_no_option seen = is_none seen.harts && is_none seen.pages && is_none seen.limit && not seen.regs
+
+-- `dis ELF`, which has no options
+abbrev pub dis_from : (operands : List (List ℕ)) → (no_option : Bool) → Option Line
+dis_from (elf ∷ []) true = Some (Dis elf)
+dis_from _ no_option = None
+
 -- the line of a command
 abbrev pub line_from : (command : List ℕ) → SoFar → Option Line
-line_from command seen = if bytes_eq command (codes "plain") then plain_from seen.operands (asked_of seen) else None
+line_from command seen =
+    if bytes_eq command (codes "plain") then plain_from seen.operands (asked_of seen) else
+    if bytes_eq command (codes "dis") then dis_from seen.operands (has_no_option seen) else
+    None
+
+-- the lines that run a machine
+abbrev pub runs_machine : Line → Bool
+runs_machine (Plain elf order asked) = true
+runs_machine (Dis elf) = false
 
 -- the words of a line, of which the first is the command
 abbrev pub line_of : List (List ℕ) → Option Line

@@ -2,13 +2,15 @@
 use Rattle.std.specs.Prelude.{◌≡◌, ◌⊎◌, ℕ, List, Bool, IsTrue, Ok, Err}
 use Rattle.vm_io.specs.declared.read.ReadErr.{ReadErr}
 use Rattle.elf_load.specs.declared.image.ImageErr.{ImageErr}
+use Rattle.elf_load.specs.Loaded.{Loaded}
+use Rattle.rv_asm.specs.Listing.{IsListing}
 use Rattle.machine_model.specs.State.{initial}
 use Rattle.ref_machine.specs.PlainState.{PlainState}
 use Rattle.ref_machine.specs.Shows.{Shows}
 use Rattle.tlbvm.specs.declared.items.OrderErr.{OrderErr}
 use Rattle.tlbvm.specs.declared.status.Status.{Status}
 use Rattle.tlbvm.specs.Status.{is_refusal}
-use Rattle.tlbvm.specs.Intake.{Name, HasFailed, IsTooLong, Intake, Input, InOrder, ComesTo}
+use Rattle.tlbvm.specs.Intake.{Name, HasFailed, IsTooLong, Intake, Input, Runs, Lists, InOrder, ComesTo}
 
 abbrev pub status_of_read : ReadErr → Status
 status_of_read ReadErr.ReadFault = Status.ReadFault
@@ -31,10 +33,17 @@ IsUnread name status = (status ≡ Status.NoMemory) ⊎ (((status ≡ Status.Rea
 abbrev pub IsRefused : (List ℕ → Name) → Intake → Status → Type 0
 IsRefused names intake status = (status ≡ Status.NoMemory) ⊎ (IsTrue (is_refusal status) × ComesTo names intake (Err status))
 
+-- a listing that was made
+pub record IsListed (names : List ℕ → Name) (intake : Intake) (text : List ℕ) : Type 0 where
+  pub file : List ℕ
+  pub image : Loaded
+  pub came : ComesTo names intake (Ok (Lists file image))
+  pub is_listing : IsListing file image.parts text
+
 -- a machine at its first state
 pub record IsStarted (names : List ℕ → Name) (intake : Intake) (turns : List ℕ) (regs : Bool) (machine : PlainState) : Type 0 where
   pub input : Input
-  pub came : ComesTo names intake (Ok input)
+  pub came : ComesTo names intake (Ok (Runs input))
   pub is_pace : input.pace ≡ InOrder turns
   pub is_regs : input.regs ≡ regs
   pub first : Shows input.setup machine (initial input.setup)

@@ -29,3 +29,14 @@ pub(crate) fn write_end<O: Sink, L: Sink>(
     }
     Ok(())
 }
+
+/// Writes a listing to `out`.
+pub(crate) fn write_listing<O: Sink>(text: &[u8], out: &mut O) -> Result<(), Failed>
+    ensures ok { OnOk result (Gets (written_of O.taken O.faults out.old out.new) text.now) }
+    ensures err { OnErr result (GetsPart (written_of O.taken O.faults out.old out.new) text.now) }
+{
+    if write_all(out, text).is_err() {
+        return Err(Failed);
+    }
+    Ok(())
+}

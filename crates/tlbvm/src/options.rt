@@ -2,7 +2,7 @@
 ghost use Rattle.std.specs.Prelude.{◌≡◌, true, false, None, Some, MatchOption, IfSome, map, string_bytes};
 ghost use Rattle.std.specs.Option.{option_map};
 ghost use Rattle.tlbvm.specs.Lines.{asked_as, line_as, shown, IsInLimits, IsLineInLimits};
-ghost use Rattle.tlbvm.specs.Options.{after_operands, after_words, asked_of, has_value, is_dashed, is_operand, line_of, name_in, plain_from, value_in};
+ghost use Rattle.tlbvm.specs.Options.{after_operands, after_words, asked_of, dis_from, has_no_option, has_value, is_dashed, is_operand, line_of, name_in, plain_from, value_in};
 
 mod seen;
 mod values;
@@ -27,6 +27,9 @@ pub enum Line<'a> {
         elf: &'a str,
         order: &'a str,
         asked: Asked,
+    },
+    Dis {
+        elf: &'a str,
     },
 }
 
@@ -122,6 +125,27 @@ fn plain_from<'a>(seen: &Seen<'a>) -> Option<Line<'a>>
     })
 }
 
+/// There is no option.
+fn has_no_option(seen: &Seen<'_>) -> bool
+    ensures { result ≡ has_no_option (shown seen.now) }
+{
+    seen.harts.is_none() && seen.pages.is_none() && seen.limit.is_none() && !seen.regs
+}
+
+/// `dis ELF`, which has no options.
+fn dis_from<'a>(seen: &Seen<'a>) -> Option<Line<'a>>
+    ensures says { option_map line_as result ≡ dis_from (shown seen.now).operands (has_no_option (shown seen.now)) }
+    ensures limits { IfSome result (λ line. IsLineInLimits (line_as line)) }
+{
+    if !has_no_option(seen) {
+        return None;
+    }
+    let [elf] = seen.operands.as_slice() else {
+        return None;
+    };
+    Some(Line::Dis { elf: *elf })
+}
+
 /// The words of a line, read: the command, its operands, and options at any place behind the command; `None` where they
 /// are no line. Behind `--` each word is an operand.
 pub fn read_line(words: &[String]) -> Option<Line<'_>>
@@ -134,6 +158,7 @@ pub fn read_line(words: &[String]) -> Option<Line<'_>>
     let seen = read_words(nothing(), words)?;
     match command.as_str() {
         "plain" => plain_from(&seen),
+        "dis" => dis_from(&seen),
         _ => None,
     }
 }

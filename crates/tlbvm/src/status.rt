@@ -12,7 +12,7 @@ use vm_io::{NoMemory, ReadErr};
 /// How a call ended. Of the ends of a machine `Stopped` doesn't come yet: there are no scripts.
 #[derive(Clone, Copy, Debug, PartialEq, Eq)]
 pub enum Status {
-    /// The guest said that it passed.
+    /// The guest said that it passed, or the listing was written.
     Done,
     /// The words are no command line.
     Usage,
@@ -26,7 +26,7 @@ pub enum Status {
     BadOrder(u64),
     /// `out` or `log` took no more.
     WriteFault,
-    /// There was no memory for the files or the machine; no turn was taken.
+    /// There was no memory for the files, the machine or the listing; no turn was taken, and nothing was written.
     NoMemory,
     /// The guest said that it failed, with this code.
     GuestFailed(u16),

@@ -1,15 +1,16 @@
 // The top call.
 ghost use Rattle.std.specs.Prelude.{◌≡◌, ◌↔◌, Option, None, Err, IsTrue, false, map, string_bytes};
 ghost use Rattle.machine_model.specs.declared.reason.Reason.{Reason as TheReason};
-ghost use Rattle.tlbvm.specs.Options.{Plain, line_of};
+ghost use Rattle.tlbvm.specs.Options.{Dis, Plain, line_of};
 ghost use Rattle.tlbvm.specs.Lines.{asked_as, line_as, IsInLimits, IsLineInLimits};
+ghost use Rattle.tlbvm.specs.Intake.{name_of};
 ghost use Rattle.tlbvm.specs.Status.{status_for, is_end, is_refusal};
-ghost use Rattle.tlbvm.specs.Call.{call_of, CameTo, HasEnded, IsCutShort, OnLine};
-ghost use Rattle.tlbvm.specs.Answers.{IsAnswered, IsComplete, IsOneRun};
+ghost use Rattle.tlbvm.specs.Call.{call_of, written_of, CameTo, GetsNothing, OnLine, Written};
+ghost use Rattle.tlbvm.specs.Answers.{EndsBy, IsAnswered, IsComplete, IsCut, IsOneListing, IsOneRun};
 
-use crate::ending::write_end;
+use crate::ending::{write_end, write_listing};
 use crate::options::{Asked, Line, read_line};
-use crate::start::start;
+use crate::start::{listing, start};
 use crate::status::{Status, status_of};
 use crate::taking::take_turns;
 use std::alloc::Global;
@@ -41,6 +42,21 @@ fn plain<F: Images, O: Sink, L: Sink>(
     }
 }
 
+/// Does a `dis` line, which leaves `log` as it is.
+fn dis<F: Images, O: Sink>(alloc: Global, elf: &str, images: &mut F, out: &mut O) -> Status
+    ensures answered { (log : Written) → GetsNothing log → IsAnswered result
+        (record { line = Dis elf.now; names = name_of F.told F.faults images.old images.new; out = written_of O.taken O.faults out.old out.new; log = log }) }
+    ensures untouched { is_end result ≡ false → out.new ≡ out.old }
+{
+    match listing(alloc, elf, images) {
+        Ok(text) => match write_listing(text.as_slice(), out) {
+            Ok(()) => Status::Done,
+            Err(_) => Status::WriteFault,
+        },
+        Err(status) => status,
+    }
+}
+
 /// Does a line by its command.
 fn run_line<F: Images, O: Sink, L: Sink>(
     alloc: Global,
@@ -56,16 +72,17 @@ fn run_line<F: Images, O: Sink, L: Sink>(
 {
     match *line {
         Line::Plain { elf, order, asked } => plain(alloc, elf, order, asked, images, out, log),
+        Line::Dis { elf } => dis(alloc, elf, images, out),
     }
 }
 
 /// Does all that a command line says, on one thread: reads its files by name from `images`, runs the machine to its
 /// end, and writes the console's bytes to `out` and then the report to `log`.
 ///
-/// The lines that are built are those of `plain`: `plain ELF ORDER`, with the options `--harts N`, `--pages N`,
-/// `--limit N` and `--regs`. Checks are made in this order: the words, the read of ELF, the image, the read of ORDER,
-/// the order, the machine's memory; the first that fails answers, and then no sink was called. Want of memory comes
-/// before the first turn only.
+/// The lines that are built are `plain ELF ORDER`, with the options `--harts N`, `--pages N`, `--limit N` and `--regs`,
+/// and `dis ELF`, which writes the listing of the file's image to `out`. Checks are made in this order: the words, the
+/// read of ELF, the image, the read of ORDER, the order, the machine's or the listing's memory; the first that fails
+/// answers, and then no sink was called. Want of memory comes before the first turn only.
 pub fn tlbvm_still<F: Images, O: Sink, L: Sink>(
     alloc: Global,
     words: &[String],
@@ -73,11 +90,16 @@ pub fn tlbvm_still<F: Images, O: Sink, L: Sink>(
     out: &mut O,
     log: &mut L,
 ) -> Status
-    // The headline: whenever the machine ends, its memory, registers and output are those of one run of the TLB-free
+    // The headline: whenever a machine ends, its memory, registers and output are those of one run of the TLB-free
     // machine.
     ensures headline { IsTrue (is_end result) → OnLine
         (call_of F.told F.faults O.taken O.faults L.taken L.faults images.old images.new out.old out.new log.old log.new)
         (map string_bytes words.now) IsOneRun }
+
+    // A `dis` line writes the listing of the image of its file.
+    ensures listed { IsTrue (is_end result) → OnLine
+        (call_of F.told F.faults O.taken O.faults L.taken L.faults images.old images.new out.old out.new log.old log.new)
+        (map string_bytes words.now) IsOneListing }
 
     // Before the start: no sink is called, and of words that are no line no file is read.
     ensures usage { (result ≡ Status.Usage) ↔ (line_of (map string_bytes words.now) ≡ None) }
@@ -89,15 +111,16 @@ pub fn tlbvm_still<F: Images, O: Sink, L: Sink>(
         (call_of F.told F.faults O.taken O.faults L.taken L.faults images.old images.new out.old out.new log.old log.new)
         (map string_bytes words.now) (CameTo (Err result)) }
 
-    // The run's first reason, or none after the order's last turn; `out` has its output and `log` its report.
+    // The run's first reason, or none after the order's last turn; `out` has its output and `log` its report. `Done` comes
+    // of a listing too, which `out` has, and `log` nothing.
     ensures ended { (reason : Option TheReason) → result ≡ status_for reason → OnLine
         (call_of F.told F.faults O.taken O.faults L.taken L.faults images.old images.new out.old out.new log.old log.new)
-        (map string_bytes words.now) (HasEnded reason) }
+        (map string_bytes words.now) (EndsBy reason) }
 
     // A sink failed: what it took is a part of what was due, and `log` got nothing until `out` was whole.
     ensures write_fault { result ≡ Status.WriteFault → OnLine
         (call_of F.told F.faults O.taken O.faults L.taken L.faults images.old images.new out.old out.new log.old log.new)
-        (map string_bytes words.now) IsCutShort }
+        (map string_bytes words.now) IsCut }
 
     // Files without faults lead to the answer that is theirs, or to want of memory: a file that isn't accepted to its own
     // refusal, others to the machine's end, where both sinks take all.

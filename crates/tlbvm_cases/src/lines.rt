@@ -161,7 +161,9 @@ fn said_by<'a>(matches: &ArgMatches<'a>) -> Option<Said<'a>> {
 }
 
 fn said_here<'a>(words: &'a [String]) -> Option<Said<'a>> {
-    let Line::Plain { elf, order, asked } = read_line(words)?;
+    let Some(Line::Plain { elf, order, asked }) = read_line(words) else {
+        return None;
+    };
     Some((
         elf,
         order,

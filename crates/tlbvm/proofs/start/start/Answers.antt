@@ -6,7 +6,7 @@ use Rattle.machine_model.specs.State.{initial}
 use Rattle.machine_model.specs.Image.{setup_of}
 use Rattle.ref_machine.specs.Shows.{Shows}
 use Rattle.tlbvm.specs.Items.{order_of}
-use Rattle.tlbvm.specs.Intake.{name_of, layout_of, Name, Input, plain_input, plain_intake, WereRead}
+use Rattle.tlbvm.specs.Intake.{name_of, layout_of, Name, Input, Runs, plain_input, plain_intake, WereRead}
 use Rattle.tlbvm.specs.Lines.{asked_as}
 use Rattle.tlbvm.specs.Refused.{IsRefused, IsUnread}
 use Rattle.tlbvm.proofs.Intakes.{read_since, unread_since, unread, read_on, refused_on, image_goes, image_on, order_goes}
@@ -45,8 +45,8 @@ returns-clause-ok g c =
     let is_order : order_of text asked.harts ≡ Ok items = subst (λ x. order_of x asked.harts ≡ Ok items) c.as_slice-2.ensures.value c.in_ok-items.ensures.ok in
     record {
       input = input;
-      came = read_on names c.args.elf.now _ file (Ok input) read (image_goes names (image_of file asked.pages) image _ (Ok input) is_image
-          (read_on names c.args.order.now _ text (Ok input) text_read (order_goes names (order_of text asked.harts) items _ (Ok input) is_order refl)));
+      came = read_on names c.args.elf.now _ file (Ok (Runs input)) read (image_goes names (image_of file asked.pages) image _ (Ok (Runs input)) is_image
+          (read_on names c.args.order.now _ text (Ok (Runs input)) text_read (order_goes names (order_of text asked.harts) items _ (Ok (Runs input)) is_order refl)));
       is_pace = refl;
       is_regs = refl;
       first = subst (λ x. Shows (setup_of (layout_of asked) x image asked.limit) c.in_ok-machine.machine (initial (setup_of (layout_of asked) x image asked.limit)))

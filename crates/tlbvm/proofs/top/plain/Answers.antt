@@ -1,5 +1,5 @@
 -- The machine has ended, and was written whole or was cut short.
-use Rattle.std.proofs.Common.{List, sym, subst}
+use Rattle.std.proofs.Common.{inl, List, sym, subst}
 use Rattle.ref_machine.specs.Ran.{Ran}
 use Rattle.tlbvm.specs.declared.items.Item.{Item}
 use Rattle.tlbvm.specs.Options.{Plain}
@@ -29,4 +29,4 @@ returns-clause-answered g c =
     c.args.images.now c.start.new.images c.args.out.now c.write_end.new.out c.args.log.now c.write_end.new.log (Plain c.args.elf.now c.args.order.now (asked_as asked)) in
     let end : Ended call asked.regs q = run_ended call (hart_turns (turns_of asked.harts c.in-Ok.job.items.items)) asked.regs c.in-Ok.job.machine q c.in-Ok.ensures.ok
     (subst (λ (items : List Item). Ran (hart_turns (turns_of asked.harts items)) c.in-Ok.job.machine q) c.as_slice.ensures.value c.take_turns-reason.ensures.ran) in
-    ended_short call asked.regs q c.take_turns-reason.result end c.take_turns-reason.ensures.reason c.in-Err-write_end.ensures.err
+    inl (ended_short call asked.regs q c.take_turns-reason.result end c.take_turns-reason.ensures.reason c.in-Err-write_end.ensures.err)

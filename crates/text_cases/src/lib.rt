@@ -1,0 +1,10 @@
+//! Tests of the commands on texts of guests, by whole calls of the program's top with files and output in memory.
+//! Expected words are those that GNU as makes of the same lines.
+#![tactic(auto)]
+
+#[cfg(test)]
+mod call;
+#[cfg(test)]
+mod listing;
+#[cfg(test)]
+mod refusals;
