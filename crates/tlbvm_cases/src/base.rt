@@ -1,6 +1,6 @@
 // Guests over the whole base: loops, loads and stores of each width and sign, calls, the devices' registers, fences.
-use crate::guests::{RAM, elf};
 use crate::whole::{NO_FAULTS, PLAIN, Want, call, compare, files};
+use case_guests::{RAM, elf};
 use std::alloc::{AllocError, Global};
 use std::process::Abort;
 use std::test::Fail;

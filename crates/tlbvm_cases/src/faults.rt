@@ -1,6 +1,6 @@
 // Reads and writes that fail, at each call in turn.
-use crate::guests::{HELLO, RAM, elf};
 use crate::whole::{Faults, NO_FAULTS, PLAIN, Want, call, compare, files, refused};
+use case_guests::{HELLO, RAM, elf};
 use std::alloc::{AllocError, Global};
 use std::test::Fail;
 use tlbvm::Status;

@@ -1,6 +1,6 @@
 // Orders of many lines, options and reports of registers, by whole calls of the program's top.
-use crate::guests::{HELLO, RAM, elf};
 use crate::whole::{Ended, Faults, NO_FAULTS, Want, call, compare, files, refused};
+use case_guests::{HELLO, RAM, elf};
 use std::alloc::{AllocError, Global};
 use std::process::Abort;
 use std::test::Fail;

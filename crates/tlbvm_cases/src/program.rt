@@ -1,6 +1,6 @@
 // Runs of whole programs to their end, and what the program says of each end.
-use crate::guests::{HELLO, RAM, elf};
 use crate::whole::{NO_FAULTS, PLAIN, Want, call, compare, files};
+use case_guests::{HELLO, RAM, elf};
 use std::alloc::{AllocError, Global};
 use std::process::Abort;
 use std::test::Fail;

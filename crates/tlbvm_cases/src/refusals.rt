@@ -1,6 +1,6 @@
 // Lines, files and orders that are refused before a machine starts: nothing is written then.
-use crate::guests::{HELLO, RAM, elf};
 use crate::whole::{Faults, NO_FAULTS, PLAIN, Want, call, compare, files, refused};
+use case_guests::{HELLO, RAM, elf};
 use std::alloc::{AllocError, Global};
 use std::test::Fail;
 use tlbvm::{BadImage, Status, code, status_line};

@@ -1,8 +1,8 @@
 // Stores at each place of a word. Each guest stores, over bytes ff, what `addi x6, x0, 'K'` and
 // `sb x6, 0(x5)` still want of their eight bytes, and then comes to these two: it prints K where
 // each byte stands in its place.
-use crate::guests::{RAM, elf};
 use crate::whole::{NO_FAULTS, PLAIN, Want, call, compare, files};
+use case_guests::{RAM, elf};
 use std::alloc::{AllocError, Global};
 use std::process::Abort;
 use std::test::Fail;

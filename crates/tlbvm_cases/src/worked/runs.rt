@@ -1,10 +1,9 @@
 // What a row of the table of whole runs says, and how it is run and compared.
 use super::guests::{CATCH, HANDLER, MAPPED};
-use crate::guests::{HELLO, RAM, elf};
 use crate::linked::linked_file;
-use crate::supervisor::with_map;
 use crate::whole::{Ended, Faults, call, files};
 use Place::{Count, Pc, X};
+use case_guests::{HELLO, RAM, elf, with_map};
 use std::alloc::{AllocError, Global};
 use std::process::Abort;
 use std::test::Fail;

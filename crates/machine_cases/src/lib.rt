@@ -1,0 +1,12 @@
+//! Tests of the reference machine itself: turns, traps, page tables, atomics and SBI calls. Expected values come from the RISC-V ISA
+//! manual and the SBI.
+#![tactic(auto)]
+
+#[cfg(test)]
+mod atomics;
+#[cfg(test)]
+mod machine;
+#[cfg(test)]
+mod sbi;
+#[cfg(test)]
+mod supervisor;

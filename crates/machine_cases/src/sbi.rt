@@ -1,0 +1,366 @@
+// Calls of the SBI by guests in supervisor mode, of one hart and of several. What is wanted stands in the RISC-V Supervisor
+// Binary Interface Specification, "Base Extension" to "Debug Console Extension" and "Legacy Extensions".
+ghost use Rattle.std.specs.Prelude.{◌≡◌, ◌≤◌, ◌<◌, length, IfOk};
+
+mod calls;
+mod console;
+mod fences;
+mod harts;
+mod interrupts;
+
+use case_guests::{RAM, Segment, elf_of};
+use elf_load::parse;
+use ref_machine::{PlainMachine, Reason};
+use std::alloc::{AllocError, Global};
+use std::process::Abort;
+use std::test::Fail;
+use step_laws::Layout;
+
+const PAGES: u32 = 1024;
+
+/// A limit that no test comes to.
+pub(crate) const FAR: u64 = 50_000_000;
+
+const ALL: u64 = 0xffff_ffff_ffff_ffff;
+
+/// The extensions.
+const PUTCHAR: u64 = 0x01;
+
+const SHUTDOWN: u64 = 0x08;
+
+const BASE: u64 = 0x10;
+
+const IPI: u64 = 0x73_5049;
+
+const RFENCE: u64 = 0x5246_4e43;
+
+const HSM: u64 = 0x48_534d;
+
+const SRST: u64 = 0x5352_5354;
+
+const DBCN: u64 = 0x4442_434e;
+
+/// A call: what a7, a6 and a0 to a3 hold.
+#[derive(Clone, Copy, Debug)]
+struct Call {
+    extension: u64,
+    function: u64,
+    args: [u64; 4],
+}
+
+/// Asks for the version of the specification, which is 2.0.
+const ASK: Call = Call {
+    extension: BASE,
+    function: 0,
+    args: [0; 4],
+};
+
+const VERSION: u64 = 0x0200_0000;
+
+/// Stops the hart that makes it.
+const STOP: Call = Call {
+    extension: HSM,
+    function: 1,
+    args: [0; 4],
+};
+
+fn status(hart: u64) -> Call {
+    Call {
+        extension: HSM,
+        function: 2,
+        args: [hart, 0, 0, 0],
+    }
+}
+
+fn start_at(hart: u64, address: u64, opaque: u64) -> Call {
+    Call {
+        extension: HSM,
+        function: 0,
+        args: [hart, address, opaque, 0],
+    }
+}
+
+/// Starts a hart that is to make the calls of its list from this one on.
+fn start_from(hart: u8, number: u8) -> Call {
+    let list = LISTS + 0x1000 * u64::from(hart);
+    start_at(u64::from(hart), BEGIN, list + 64 * u64::from(number))
+}
+
+fn start(hart: u8) -> Call {
+    start_from(hart, 0)
+}
+
+fn send(mask: u64, base: u64) -> Call {
+    Call {
+        extension: IPI,
+        function: 0,
+        args: [mask, base, 0, 0],
+    }
+}
+
+/// The errors of the specification that this machine answers.
+#[derive(Clone, Copy, Debug)]
+enum Error {
+    NotSupported,
+    InvalidParam,
+    InvalidAddress,
+    AlreadyAvailable,
+}
+
+/// Its number, which is negative, in a register.
+fn number_of(error: Error) -> u64 {
+    match error {
+        Error::NotSupported => 0xffff_ffff_ffff_fffe,
+        Error::InvalidParam => 0xffff_ffff_ffff_fffd,
+        Error::InvalidAddress => 0xffff_ffff_ffff_fffb,
+        Error::AlreadyAvailable => 0xffff_ffff_ffff_fffa,
+    }
+}
+
+/// What a call comes to. Those of the legacy extensions leave a1.
+#[derive(Clone, Copy, Debug)]
+enum Want {
+    Gives(u64),
+    Fails(Error),
+    LegacyGives,
+    LegacyFails(Error),
+    Stops,
+    Ends(Reason),
+}
+
+fn reason_of(want: Want) -> Option<Reason> {
+    match want {
+        Want::Ends(reason) => Some(reason),
+        _ => None,
+    }
+}
+
+/// The registers behind a call. One that doesn't return leaves them.
+fn registers_behind(before: [u64; 32], want: Want) -> [u64; 32] {
+    let mut x = before;
+    match want {
+        Want::Gives(value) => {
+            x[10] = 0;
+            x[11] = value;
+        }
+        Want::Fails(error) => {
+            x[10] = number_of(error);
+            x[11] = 0;
+        }
+        Want::LegacyGives => x[10] = 0,
+        Want::LegacyFails(error) => x[10] = number_of(error),
+        Want::Stops | Want::Ends(_) => {}
+    }
+    x
+}
+
+/// Makes the calls of its list, one after another, and reads sip behind each.
+const CALLER: [u32; 14] = [
+    0x0003_0597, // auipc x11, 0x30
+    0x0005_8293, // addi x5, x11, 0
+    0x0002_b503, // ld x10, 0(x5)
+    0x0082_b583, // ld x11, 8(x5)
+    0x0102_b603, // ld x12, 16(x5)
+    0x0182_b683, // ld x13, 24(x5)
+    0x0202_b703, // ld x14, 32(x5)
+    0x0282_b783, // ld x15, 40(x5)
+    0x0302_b803, // ld x16, 48(x5)
+    0x0382_b883, // ld x17, 56(x5)
+    0x0000_0073, // ecall
+    0x1440_24f3, // csrrs x9, sip, x0
+    0x0402_8293, // addi x5, x5, 64
+    0xfd5f_f06f, // jal x0, pc - 44
+];
+
+/// Where a hart that is started begins in it, with the place of its list in a1; hart 0 gets its own there.
+const BEGIN: u64 = 0x8000_0004;
+
+/// Where its ecall stands, and how many turns are taken from one to the next.
+const CALL_PC: u64 = 0x8000_0028;
+
+const ROUND: u64 = 12;
+
+/// How many instructions hart 0 has counted behind its first call.
+const FIRST_CALL: u64 = 11;
+
+/// Where hart 0's list stands. Each other hart's is a page behind the last.
+const LISTS: u64 = 0x8003_0000;
+
+/// A hart, the call that it makes next, and what that comes to.
+type Step = (u8, Call, Want);
+
+/// What a4 and a5 hold at each call, of which no answer depends on them.
+const IGNORED: [u64; 2] = [0x44, 0x55];
+
+fn push_call(words: &mut Vec<u32>, call: &Call) -> Result<(), AllocError> {
+    let [a0, a1, a2, a3] = call.args;
+    let [a4, a5] = IGNORED;
+    for value in [a0, a1, a2, a3, a4, a5, call.function, call.extension] {
+        words.push((value % 0x1_0000_0000) as u32)?;
+        words.push((value / 0x1_0000_0000) as u32)?;
+    }
+    Ok(())
+}
+
+/// The words of the harts' lists.
+fn lists_of(alloc: Global, harts: u8, steps: &[Step]) -> Result<Vec<u32>, AllocError> {
+    let mut words = Vec::new(alloc);
+    for list in 0..harts {
+        for (hart, call, _) in steps {
+            if *hart == list {
+                push_call(&mut words, call)?;
+            }
+        }
+        for _ in words.len()..1024 * (usize::from(list) + 1) {
+            words.push(0)?;
+        }
+    }
+    Ok(words)
+}
+
+/// A machine of so many harts with these words in RAM, which begins at RAM's first byte.
+pub(crate) fn machine_with(
+    alloc: Global,
+    harts: u8,
+    limit: u64,
+    segments: &[Segment<'_>],
+) -> Result<PlainMachine, Fail>
+    requires some { 1 ≤ harts }
+    requires most { harts ≤ 8 }
+    requires limit { 0 < limit }
+    requires segments { length segments.now ≤ 16 }
+    ensures { IfOk result (λ machine. machine.shared.layout.harts ≡ harts) }
+{
+    let file = elf_of(alloc, RAM, segments)?;
+    let image = parse(alloc, &file, PAGES)?;
+    let layout = Layout {
+        harts,
+        pages: PAGES,
+    };
+    Ok(PlainMachine::new(alloc, &image, &file, layout, limit)?)
+}
+
+/// A machine whose harts make the calls of these steps.
+fn caller(alloc: Global, harts: u8, limit: u64, steps: &[Step]) -> Result<PlainMachine, Fail>
+    requires some { 1 ≤ harts }
+    requires most { harts ≤ 8 }
+    requires limit { 0 < limit }
+    ensures { IfOk result (λ machine. machine.shared.layout.harts ≡ harts) }
+{
+    let lists = lists_of(alloc, harts, steps)?;
+    let segments = [(RAM, CALLER.as_slice()), (LISTS, lists.as_slice())];
+    machine_with(alloc, harts, limit, &segments)
+}
+
+/// Takes so many turns of a hart, and answers what the last of them does.
+pub(crate) fn turn_times(machine: &mut PlainMachine, hart: u8, turns: u64) -> Option<Reason>
+    requires { hart < machine.old.shared.layout.harts }
+    ensures { machine.new.shared.layout.harts ≡ machine.old.shared.layout.harts }
+{
+    let mut answer = None;
+    for _ in 0..turns {
+        answer = machine.turn(hart);
+    }
+    answer
+}
+
+/// Takes so many turns of a hart, behind which the machine goes on.
+fn go_on(rt: &impl Abort, machine: &mut PlainMachine, hart: u8, turns: u64)
+    requires { hart < machine.old.shared.layout.harts }
+    ensures { machine.new.shared.layout.harts ≡ machine.old.shared.layout.harts }
+{
+    let answer = turn_times(machine, hart, turns);
+    assert_eq!(rt; answer, None, "{turns} turns of hart {hart}");
+}
+
+/// Takes a hart's turns up to its next call.
+fn come_to_call(machine: &mut PlainMachine, hart: u8)
+    requires { hart < machine.old.shared.layout.harts }
+    ensures { machine.new.shared.layout.harts ≡ machine.old.shared.layout.harts }
+{
+    for _ in 1..ROUND {
+        if machine.arch(hart).pc == CALL_PC {
+            return;
+        }
+        machine.turn(hart);
+    }
+}
+
+/// A hart's CSRs.
+fn csrs_of(machine: &PlainMachine, hart: u8) -> [u64; 8]
+    requires { hart < machine.now.shared.layout.harts }
+{
+    let arch = machine.arch(hart);
+    [
+        arch.sstatus,
+        arch.sie,
+        arch.stvec,
+        arch.sscratch,
+        arch.sepc,
+        arch.scause,
+        arch.stval,
+        arch.satp,
+    ]
+}
+
+/// A hart's registers, CSRs, pc, count, and whether it is in user mode.
+type Shown = ([u64; 32], [u64; 8], u64, u64, bool);
+
+fn shown_of(machine: &PlainMachine, hart: u8) -> Shown
+    requires { hart < machine.now.shared.layout.harts }
+{
+    let arch = machine.arch(hart);
+    let count = machine.count(hart);
+    (arch.x, csrs_of(machine, hart), arch.pc, count, arch.user)
+}
+
+/// A hart makes its next call, which comes to what is wanted and changes nothing else of it.
+fn take_step(rt: &impl Abort, machine: &mut PlainMachine, hart: u8, call: Call, want: Want)
+    requires { hart < machine.old.shared.layout.harts }
+    ensures { machine.new.shared.layout.harts ≡ machine.old.shared.layout.harts }
+{
+    come_to_call(machine, hart);
+    let (x, csrs, pc, count, _) = shown_of(machine, hart);
+    assert_eq!(rt; pc, CALL_PC, "begin: hart {hart}, {call:?}");
+    let answer = machine.turn(hart);
+    assert_eq!(rt; answer, reason_of(want), "reason: hart {hart}, {call:?}");
+    let behind = (
+        registers_behind(x, want),
+        csrs,
+        CALL_PC + 4,
+        count.saturating_add(1),
+        false,
+    );
+    assert_eq!(rt; shown_of(machine, hart), behind, "hart {hart}, {call:?}");
+}
+
+/// The machine behind these steps, each of which comes to what is wanted.
+fn play(
+    rt: &impl Abort,
+    alloc: Global,
+    harts: u8,
+    limit: u64,
+    steps: &[Step],
+) -> Result<PlainMachine, Fail>
+    requires some { 1 ≤ harts }
+    requires most { harts ≤ 8 }
+    requires limit { 0 < limit }
+    ensures { IfOk result (λ machine. machine.shared.layout.harts ≡ harts) }
+{
+    let mut machine = caller(alloc, harts, limit, steps)?;
+    for (hart, call, want) in steps {
+        assert!(rt; *hart < harts, "a hart that there is: {call:?}");
+        take_step(rt, &mut machine, *hart, *call, *want);
+    }
+    Ok(machine)
+}
+
+/// The same, where the machine itself isn't looked at.
+fn plays(rt: &impl Abort, alloc: Global, harts: u8, limit: u64, steps: &[Step]) -> Result<(), Fail>
+    requires some { 1 ≤ harts }
+    requires most { harts ≤ 8 }
+    requires limit { 0 < limit }
+{
+    play(rt, alloc, harts, limit, steps)?;
+    Ok(())
+}

@@ -1,6 +1,0 @@
--- The number of harts stays.
-use Rattle.std.proofs.Common.{◌≡◌}
-use Rattle.tlbvm_cases.proofs.sbi.come_to_call.Given as goal
-
-abbrev pub invariant-loop : goal.invariant-loop
-invariant-loop l = l.machine.shared.layout.harts ≡ l.fn.machine.shared.layout.harts
