@@ -1,7 +1,7 @@
--- The definition of a `plain` line computed on lines.
+-- The definition of a line computed on lines.
 use Rattle.std.proofs.Common.{◌≡◌, refl, ℕ, List, [], ◌∷◌, Option, Some, None, true, false, Bool}
 use Rattle.std.specs.Prelude.{codes}
-use Rattle.tlbvm.specs.Options.{Line, Plain, line_of, with_value}
+use Rattle.tlbvm.specs.Options.{Line, Plain, Dis, line_of, with_value}
 
 -- a line of the operands e and o
 abbrev says : (harts pages limit : ℕ) → Bool → Option Line
@@ -84,3 +84,22 @@ regs_with_value = refl
 
 unknown : line_of (codes "plain" ∷ codes "e" ∷ codes "o" ∷ codes "-r" ∷ []) ≡ None
 unknown = refl
+
+listing : line_of (codes "dis" ∷ codes "e" ∷ []) ≡ Some (Dis (codes "e"))
+listing = refl
+
+listing_dashed : line_of (codes "dis" ∷ codes "--" ∷ codes "-e" ∷ []) ≡ Some (Dis (codes "-e"))
+listing_dashed = refl
+
+listing_of_nothing : line_of (codes "dis" ∷ []) ≡ None
+listing_of_nothing = refl
+
+listing_of_two : line_of (codes "dis" ∷ codes "a" ∷ codes "b" ∷ []) ≡ None
+listing_of_two = refl
+
+listing_with_harts : line_of (codes "dis" ∷ codes "--harts" ∷ codes "2" ∷ codes "e" ∷ []) ≡ None
+unfolding with_value
+listing_with_harts = refl
+
+listing_with_regs : line_of (codes "dis" ∷ codes "e" ∷ codes "--regs" ∷ []) ≡ None
+listing_with_regs = refl
