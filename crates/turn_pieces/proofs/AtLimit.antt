@@ -447,7 +447,7 @@ limit_turn_closed = record {
 -- 2 turns
 pub first_hart_chain : IsChain two_harts 0 2 limit_turn
 unfolding name_of
-first_hart_chain = whole (turn (turn (none) (record { look = step 0 2 Load 0 0; looks = (refl, refl); grows = grows_then two_harts 0 start_look start_called (grows_then two_harts 0 start_look start_code_5 (grows_then two_harts 0 start_look start_code_4 (grows_then two_harts 0 start_look start_code_3 (grows_then two_harts 0 start_look start_code_2 (grows_then two_harts 0 start_look start_code_1 (grows_then two_harts 0 start_look start_inside (grows_then two_harts 0 start_look start_look (stays) start_inside_grows) start_code_1_grows) start_code_2_grows) start_code_3_grows) start_code_4_grows) start_code_5_grows) start_called_grows) start_turn_grows; closed = start_turn_closed })) (record { look = step 0 2 Load 0 0; looks = (refl, refl); grows = grows_then two_harts 0 add_look add_turn (grows_then two_harts 0 add_look add_stepped (grows_then two_harts 0 add_look add_code_3 (grows_then two_harts 0 add_look add_code_2 (grows_then two_harts 0 add_look add_code_1 (grows_then two_harts 0 add_look add_inside (grows_then two_harts 0 add_look add_look (stays) add_inside_grows) add_code_1_grows) add_code_2_grows) add_code_3_grows) add_stepped_grows) add_turn_grows) limit_turn_grows; closed = limit_turn_closed }))
+first_hart_chain = whole (turn (turn (none) (record { look = step 0 2 Load 0 0; looks = (refl, refl); once = refl; grows = grows_then two_harts 0 start_look start_called (grows_then two_harts 0 start_look start_code_5 (grows_then two_harts 0 start_look start_code_4 (grows_then two_harts 0 start_look start_code_3 (grows_then two_harts 0 start_look start_code_2 (grows_then two_harts 0 start_look start_code_1 (grows_then two_harts 0 start_look start_inside (grows_then two_harts 0 start_look start_look (stays) start_inside_grows) start_code_1_grows) start_code_2_grows) start_code_3_grows) start_code_4_grows) start_code_5_grows) start_called_grows) start_turn_grows; closed = start_turn_closed })) (record { look = step 0 2 Load 0 0; looks = (refl, refl); once = refl; grows = grows_then two_harts 0 add_look add_turn (grows_then two_harts 0 add_look add_stepped (grows_then two_harts 0 add_look add_code_3 (grows_then two_harts 0 add_look add_code_2 (grows_then two_harts 0 add_look add_code_1 (grows_then two_harts 0 add_look add_inside (grows_then two_harts 0 add_look add_look (stays) add_inside_grows) add_code_1_grows) add_code_2_grows) add_code_3_grows) add_stepped_grows) add_turn_grows) limit_turn_grows; closed = limit_turn_closed }))
 
 abbrev pub begin_look : Log
 begin_look = made (step 1 2 Load 0 0) ∷ []
@@ -640,4 +640,4 @@ second_turn_closed = record {
 -- 2 turns
 pub second_hart_chain : IsChain two_harts 1 2 second_turn
 unfolding name_of
-second_hart_chain = whole (turn (turn (none) (record { look = step 1 2 Load 0 0; looks = (refl, refl); grows = grows_then two_harts 1 begin_look begin_look (stays) begin_turn_grows; closed = begin_turn_closed })) (record { look = step 1 2 Load 0 0; looks = (refl, refl); grows = grows_then two_harts 1 second_look second_stepped (grows_then two_harts 1 second_look second_code_3 (grows_then two_harts 1 second_look second_code_2 (grows_then two_harts 1 second_look second_code_1 (grows_then two_harts 1 second_look second_inside (grows_then two_harts 1 second_look second_look (stays) second_inside_grows) second_code_1_grows) second_code_2_grows) second_code_3_grows) second_stepped_grows) second_turn_grows; closed = second_turn_closed }))
+second_hart_chain = whole (turn (turn (none) (record { look = step 1 2 Load 0 0; looks = (refl, refl); once = refl; grows = grows_then two_harts 1 begin_look begin_look (stays) begin_turn_grows; closed = begin_turn_closed })) (record { look = step 1 2 Load 0 0; looks = (refl, refl); once = refl; grows = grows_then two_harts 1 second_look second_stepped (grows_then two_harts 1 second_look second_code_3 (grows_then two_harts 1 second_look second_code_2 (grows_then two_harts 1 second_look second_code_1 (grows_then two_harts 1 second_look second_inside (grows_then two_harts 1 second_look second_look (stays) second_inside_grows) second_code_1_grows) second_code_2_grows) second_code_3_grows) second_stepped_grows) second_turn_grows; closed = second_turn_closed }))
