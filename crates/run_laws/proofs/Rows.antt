@@ -8,8 +8,8 @@ use Rattle.rv64_priv.specs.Walk.{walk_of}
 use Rattle.rv64_exec.specs.Plan.{need_of}
 use Rattle.rv64_exec.specs.Finish.{done}
 use Rattle.step_laws.specs.declared.steps.Step.{Step}
-use Rattle.step_laws.specs.declared.steps.WordOp.TheVariants.{Load, Store, Add, Exchange}
-use Rattle.step_laws.specs.Words.{first_ram_word, loader}
+use Rattle.step_laws.specs.declared.steps.WordOp.TheVariants.{Load, Store, Add, Exchange, Or}
+use Rattle.step_laws.specs.Words.{first_ram_word, loader, first_dirty_word}
 use Rattle.step_laws.specs.Map.{Hsm, number_of}
 use Rattle.step_laws.specs.Steps.{value_at, answer_of}
 use Rattle.step_laws.specs.Discipline.{minus_one}
@@ -25,7 +25,7 @@ use Rattle.run_laws.specs.Read.{own_items}
 
 -- hart 0 starts hart 1, adds, and stores over two words in its section; then hart 1 adds, and hart 0 stops
 abbrev all : Log
-all = made (step 0 8 Store 0 0) ∷ made (step 0 3 Add minus_one 2) ∷ did (stopping) ∷ made (step 0 13 Store 1 0) ∷ did (fetched 0 (Ecall)) ∷ made (step 0 (first_ram_word + 6) Load 0 (encoding_of (Ecall) + 2 ^ 32 * encoding_of (Ecall))) ∷ made (step 0 5 Load 0 0) ∷ did (executed 0) ∷ did (fetched 0 (Addi 16 0 (pos 1))) ∷ made (step 0 (first_ram_word + 5) Load 0 (encoding_of (Sd 11 10 (pos 4)) + 2 ^ 32 * encoding_of (Addi 16 0 (pos 1)))) ∷ made (step 0 5 Load 0 0) ∷ made (step 0 1 Load 0 0) ∷ made (step 0 8 Store 1 0) ∷ made (step 0 2 Load 0 0) ∷ made (step 1 24 Store 0 0) ∷ did (added 1 ((1 + 2 ^ 32))) ∷ made (step 1 (first_ram_word + 8) Add 1 (1 + 2 ^ 32)) ∷ did (fetched 1 (Amoadd true false false 5 11 10)) ∷ made (step 1 (first_ram_word + 4) Load 0 (encoding_of (Addi 10 0 (pos 1)) + 2 ^ 32 * encoding_of (Amoadd true false false 5 11 10))) ∷ made (step 1 5 Load 0 0) ∷ did (executed 1) ∷ did (fetched 1 (Addi 10 0 (pos 1))) ∷ made (step 1 (first_ram_word + 4) Load 0 (encoding_of (Addi 10 0 (pos 1)) + 2 ^ 32 * encoding_of (Amoadd true false false 5 11 10))) ∷ made (step 1 5 Load 0 0) ∷ did (executed 1) ∷ did (fetched 1 (Addi 11 11 (pos 40))) ∷ made (step 1 (first_ram_word + 3) Load 0 (encoding_of (Auipc 11 (pos 0)) + 2 ^ 32 * encoding_of (Addi 11 11 (pos 40)))) ∷ made (step 1 5 Load 0 0) ∷ did (executed 1) ∷ did (fetched 1 (Auipc 11 (pos 0))) ∷ made (step 1 (first_ram_word + 3) Load 0 (encoding_of (Auipc 11 (pos 0)) + 2 ^ 32 * encoding_of (Addi 11 11 (pos 40)))) ∷ made (step 1 5 Load 0 0) ∷ made (step 1 1 Load 0 0) ∷ made (step 1 24 Store 1 0) ∷ made (step 1 2 Load 0 0) ∷ made (step 0 1 Store 0 0) ∷ did (crossed) ∷ made (step 0 (first_ram_word + 9) Store 0 0) ∷ made (step 0 (first_ram_word + 8) Store (1 + 2 ^ 32) 0) ∷ made (step 0 (first_ram_word + 9) Load 0 0) ∷ made (step 0 (first_ram_word + 8) Load 0 1) ∷ did (fetched 0 (Sd 11 10 (pos 4))) ∷ made (step 0 (first_ram_word + 5) Load 0 (encoding_of (Sd 11 10 (pos 4)) + 2 ^ 32 * encoding_of (Addi 16 0 (pos 1)))) ∷ made (step 0 5 Load 0 0) ∷ made (step 0 136 Load 0 0) ∷ made (step 0 24 Load 0 0) ∷ made (step 0 1 (Exchange 0) 1 0) ∷ made (step 0 2 Load 0 0) ∷ made (step 0 8 Store 0 0) ∷ did (added 0 (0)) ∷ made (step 0 (first_ram_word + 8) Add 1 0) ∷ did (fetched 0 (Amoadd true false false 5 11 10)) ∷ made (step 0 (first_ram_word + 4) Load 0 (encoding_of (Addi 10 0 (pos 1)) + 2 ^ 32 * encoding_of (Amoadd true false false 5 11 10))) ∷ made (step 0 5 Load 0 0) ∷ did (executed 0) ∷ did (fetched 0 (Addi 10 0 (pos 1))) ∷ made (step 0 (first_ram_word + 4) Load 0 (encoding_of (Addi 10 0 (pos 1)) + 2 ^ 32 * encoding_of (Amoadd true false false 5 11 10))) ∷ made (step 0 5 Load 0 0) ∷ did (executed 0) ∷ did (fetched 0 (Addi 11 11 (pos 40))) ∷ made (step 0 (first_ram_word + 3) Load 0 (encoding_of (Auipc 11 (pos 0)) + 2 ^ 32 * encoding_of (Addi 11 11 (pos 40)))) ∷ made (step 0 5 Load 0 0) ∷ did (executed 0) ∷ did (fetched 0 (Auipc 11 (pos 0))) ∷ made (step 0 (first_ram_word + 3) Load 0 (encoding_of (Auipc 11 (pos 0)) + 2 ^ 32 * encoding_of (Addi 11 11 (pos 40)))) ∷ made (step 0 5 Load 0 0) ∷ made (step 0 1 Load 0 0) ∷ made (step 0 8 Store 1 0) ∷ made (step 0 2 Load 0 0) ∷ did (Begin 1 0x80000018 0) ∷ made (step 1 29 Store 0 0) ∷ did (Flushes 1 Full) ∷ made (step 1 27 Store 0 0) ∷ made (step 1 31 Load 0 0) ∷ made (step 1 30 Load 0 0x80000018) ∷ made (step 1 27 (Exchange 0) 2 0) ∷ made (step 1 29 Load 0 2) ∷ made (step 1 2 Load 0 0) ∷ made (step 0 8 Store 0 0) ∷ made (step 0 29 Store 2 0) ∷ made (step 0 3 Add 1 1) ∷ made (step 0 31 Store 0 0) ∷ made (step 0 30 Store 0x80000018 0) ∷ did (starting) ∷ made (step 0 29 (Exchange 1) 3 1) ∷ did (fetched 0 (Ecall)) ∷ made (step 0 (first_ram_word + 2) Load 0 (encoding_of (Addi 11 11 (pos 12)) + 2 ^ 32 * encoding_of (Ecall))) ∷ made (step 0 5 Load 0 0) ∷ did (executed 0) ∷ did (fetched 0 (Addi 11 11 (pos 12))) ∷ made (step 0 (first_ram_word + 2) Load 0 (encoding_of (Addi 11 11 (pos 12)) + 2 ^ 32 * encoding_of (Ecall))) ∷ made (step 0 5 Load 0 0) ∷ did (executed 0) ∷ did (fetched 0 (Auipc 11 (pos 0))) ∷ made (step 0 (first_ram_word + 1) Load 0 (encoding_of (Addi 10 0 (pos 1)) + 2 ^ 32 * encoding_of (Auipc 11 (pos 0)))) ∷ made (step 0 5 Load 0 0) ∷ did (executed 0) ∷ did (fetched 0 (Addi 10 0 (pos 1))) ∷ made (step 0 (first_ram_word + 1) Load 0 (encoding_of (Addi 10 0 (pos 1)) + 2 ^ 32 * encoding_of (Auipc 11 (pos 0)))) ∷ made (step 0 5 Load 0 0) ∷ did (executed 0) ∷ did (fetched 0 (Addi 17 17 (pos 845))) ∷ made (step 0 first_ram_word Load 0 (encoding_of (Lui 17 (pos 0x485000)) + 2 ^ 32 * encoding_of (Addi 17 17 (pos 845)))) ∷ made (step 0 5 Load 0 0) ∷ did (executed 0) ∷ did (fetched 0 (Lui 17 (pos 0x485000))) ∷ made (step 0 first_ram_word Load 0 (encoding_of (Lui 17 (pos 0x485000)) + 2 ^ 32 * encoding_of (Addi 17 17 (pos 845)))) ∷ made (step 0 5 Load 0 0) ∷ made (step 0 1 Load 0 0) ∷ made (step 0 8 Store 1 0) ∷ made (step 0 2 Load 0 0) ∷ []
+all = made (step 0 8 Store 0 0) ∷ made (step 0 3 Add minus_one 2) ∷ did (stopping) ∷ made (step 0 13 Store 1 0) ∷ did (fetched 0 (Ecall)) ∷ made (step 0 (first_ram_word + 6) Load 0 (encoding_of (Ecall) + 2 ^ 32 * encoding_of (Ecall))) ∷ made (step 0 5 Load 0 0) ∷ did (executed 0) ∷ did (fetched 0 (Addi 16 0 (pos 1))) ∷ made (step 0 (first_ram_word + 5) Load 0 (encoding_of (Sd 11 10 (pos 4)) + 2 ^ 32 * encoding_of (Addi 16 0 (pos 1)))) ∷ made (step 0 5 Load 0 0) ∷ made (step 0 1 Load 0 0) ∷ made (step 0 8 Store 1 0) ∷ made (step 0 2 Load 0 0) ∷ made (step 1 24 Store 0 0) ∷ did (added 1 ((1 + 2 ^ 32))) ∷ made (step 1 (first_ram_word + 8) Add 1 (1 + 2 ^ 32)) ∷ made (step 1 first_dirty_word Or 1 1) ∷ did (fetched 1 (Amoadd true false false 5 11 10)) ∷ made (step 1 (first_ram_word + 4) Load 0 (encoding_of (Addi 10 0 (pos 1)) + 2 ^ 32 * encoding_of (Amoadd true false false 5 11 10))) ∷ made (step 1 5 Load 0 0) ∷ did (executed 1) ∷ did (fetched 1 (Addi 10 0 (pos 1))) ∷ made (step 1 (first_ram_word + 4) Load 0 (encoding_of (Addi 10 0 (pos 1)) + 2 ^ 32 * encoding_of (Amoadd true false false 5 11 10))) ∷ made (step 1 5 Load 0 0) ∷ did (executed 1) ∷ did (fetched 1 (Addi 11 11 (pos 40))) ∷ made (step 1 (first_ram_word + 3) Load 0 (encoding_of (Auipc 11 (pos 0)) + 2 ^ 32 * encoding_of (Addi 11 11 (pos 40)))) ∷ made (step 1 5 Load 0 0) ∷ did (executed 1) ∷ did (fetched 1 (Auipc 11 (pos 0))) ∷ made (step 1 (first_ram_word + 3) Load 0 (encoding_of (Auipc 11 (pos 0)) + 2 ^ 32 * encoding_of (Addi 11 11 (pos 40)))) ∷ made (step 1 5 Load 0 0) ∷ made (step 1 1 Load 0 0) ∷ made (step 1 24 Store 1 0) ∷ made (step 1 2 Load 0 0) ∷ made (step 0 1 Store 0 0) ∷ did (crossed) ∷ made (step 0 (first_ram_word + 9) Store 0 0) ∷ made (step 0 (first_ram_word + 8) Store (1 + 2 ^ 32) 0) ∷ made (step 0 (first_ram_word + 9) Load 0 0) ∷ made (step 0 (first_ram_word + 8) Load 0 1) ∷ made (step 0 first_dirty_word Or 1 1) ∷ did (fetched 0 (Sd 11 10 (pos 4))) ∷ made (step 0 (first_ram_word + 5) Load 0 (encoding_of (Sd 11 10 (pos 4)) + 2 ^ 32 * encoding_of (Addi 16 0 (pos 1)))) ∷ made (step 0 5 Load 0 0) ∷ made (step 0 136 Load 0 0) ∷ made (step 0 24 Load 0 0) ∷ made (step 0 1 (Exchange 0) 1 0) ∷ made (step 0 2 Load 0 0) ∷ made (step 0 8 Store 0 0) ∷ did (added 0 (0)) ∷ made (step 0 (first_ram_word + 8) Add 1 0) ∷ made (step 0 first_dirty_word Or 1 0) ∷ did (fetched 0 (Amoadd true false false 5 11 10)) ∷ made (step 0 (first_ram_word + 4) Load 0 (encoding_of (Addi 10 0 (pos 1)) + 2 ^ 32 * encoding_of (Amoadd true false false 5 11 10))) ∷ made (step 0 5 Load 0 0) ∷ did (executed 0) ∷ did (fetched 0 (Addi 10 0 (pos 1))) ∷ made (step 0 (first_ram_word + 4) Load 0 (encoding_of (Addi 10 0 (pos 1)) + 2 ^ 32 * encoding_of (Amoadd true false false 5 11 10))) ∷ made (step 0 5 Load 0 0) ∷ did (executed 0) ∷ did (fetched 0 (Addi 11 11 (pos 40))) ∷ made (step 0 (first_ram_word + 3) Load 0 (encoding_of (Auipc 11 (pos 0)) + 2 ^ 32 * encoding_of (Addi 11 11 (pos 40)))) ∷ made (step 0 5 Load 0 0) ∷ did (executed 0) ∷ did (fetched 0 (Auipc 11 (pos 0))) ∷ made (step 0 (first_ram_word + 3) Load 0 (encoding_of (Auipc 11 (pos 0)) + 2 ^ 32 * encoding_of (Addi 11 11 (pos 40)))) ∷ made (step 0 5 Load 0 0) ∷ made (step 0 1 Load 0 0) ∷ made (step 0 8 Store 1 0) ∷ made (step 0 2 Load 0 0) ∷ did (Begin 1 0x80000018 0) ∷ made (step 1 29 Store 0 0) ∷ did (Flushes 1 Full) ∷ made (step 1 27 Store 0 0) ∷ made (step 1 31 Load 0 0) ∷ made (step 1 30 Load 0 0x80000018) ∷ made (step 1 27 (Exchange 0) 2 0) ∷ made (step 1 29 Load 0 2) ∷ made (step 1 2 Load 0 0) ∷ made (step 0 8 Store 0 0) ∷ made (step 0 29 Store 2 0) ∷ made (step 0 3 Add 1 1) ∷ made (step 0 31 Store 0 0) ∷ made (step 0 30 Store 0x80000018 0) ∷ did (starting) ∷ made (step 0 29 (Exchange 1) 3 1) ∷ did (fetched 0 (Ecall)) ∷ made (step 0 (first_ram_word + 2) Load 0 (encoding_of (Addi 11 11 (pos 12)) + 2 ^ 32 * encoding_of (Ecall))) ∷ made (step 0 5 Load 0 0) ∷ did (executed 0) ∷ did (fetched 0 (Addi 11 11 (pos 12))) ∷ made (step 0 (first_ram_word + 2) Load 0 (encoding_of (Addi 11 11 (pos 12)) + 2 ^ 32 * encoding_of (Ecall))) ∷ made (step 0 5 Load 0 0) ∷ did (executed 0) ∷ did (fetched 0 (Auipc 11 (pos 0))) ∷ made (step 0 (first_ram_word + 1) Load 0 (encoding_of (Addi 10 0 (pos 1)) + 2 ^ 32 * encoding_of (Auipc 11 (pos 0)))) ∷ made (step 0 5 Load 0 0) ∷ did (executed 0) ∷ did (fetched 0 (Addi 10 0 (pos 1))) ∷ made (step 0 (first_ram_word + 1) Load 0 (encoding_of (Addi 10 0 (pos 1)) + 2 ^ 32 * encoding_of (Auipc 11 (pos 0)))) ∷ made (step 0 5 Load 0 0) ∷ did (executed 0) ∷ did (fetched 0 (Addi 17 17 (pos 845))) ∷ made (step 0 first_ram_word Load 0 (encoding_of (Lui 17 (pos 0x485000)) + 2 ^ 32 * encoding_of (Addi 17 17 (pos 845)))) ∷ made (step 0 5 Load 0 0) ∷ did (executed 0) ∷ did (fetched 0 (Lui 17 (pos 0x485000))) ∷ made (step 0 first_ram_word Load 0 (encoding_of (Lui 17 (pos 0x485000)) + 2 ^ 32 * encoding_of (Addi 17 17 (pos 845)))) ∷ made (step 0 5 Load 0 0) ∷ made (step 0 1 Load 0 0) ∷ made (step 0 8 Store 1 0) ∷ made (step 0 2 Load 0 0) ∷ []
 
 abbrev run : List Event
 run = stopping ∷ fetched 0 (Ecall) ∷ executed 0 ∷ fetched 0 (Addi 16 0 (pos 1)) ∷ added 1 ((1 + 2 ^ 32)) ∷ fetched 1 (Amoadd true false false 5 11 10) ∷ executed 1 ∷ fetched 1 (Addi 10 0 (pos 1)) ∷ executed 1 ∷ fetched 1 (Addi 11 11 (pos 40)) ∷ executed 1 ∷ fetched 1 (Auipc 11 (pos 0)) ∷ crossed ∷ fetched 0 (Sd 11 10 (pos 4)) ∷ added 0 (0) ∷ fetched 0 (Amoadd true false false 5 11 10) ∷ executed 0 ∷ fetched 0 (Addi 10 0 (pos 1)) ∷ executed 0 ∷ fetched 0 (Addi 11 11 (pos 40)) ∷ executed 0 ∷ fetched 0 (Auipc 11 (pos 0)) ∷ Begin 1 0x80000018 0 ∷ Flushes 1 Full ∷ starting ∷ fetched 0 (Ecall) ∷ executed 0 ∷ fetched 0 (Addi 11 11 (pos 12)) ∷ executed 0 ∷ fetched 0 (Auipc 11 (pos 0)) ∷ executed 0 ∷ fetched 0 (Addi 10 0 (pos 1)) ∷ executed 0 ∷ fetched 0 (Addi 17 17 (pos 845)) ∷ executed 0 ∷ fetched 0 (Lui 17 (pos 0x485000)) ∷ []

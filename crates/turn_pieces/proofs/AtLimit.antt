@@ -9,8 +9,8 @@ use Rattle.rv64_priv.specs.Walk.{Walked, walk_of}
 use Rattle.rv64_exec.specs.declared.needs.Answer.{Answer}
 use Rattle.rv64_exec.specs.Plan.{need_of}
 use Rattle.rv64_exec.specs.Finish.{done}
-use Rattle.step_laws.specs.declared.steps.WordOp.TheVariants.{Load, Store, Add, Exchange}
-use Rattle.step_laws.specs.Words.{first_ram_word}
+use Rattle.step_laws.specs.declared.steps.WordOp.TheVariants.{Load, Store, Add, Or, Exchange}
+use Rattle.step_laws.specs.Words.{first_ram_word, first_dirty_word}
 use Rattle.step_laws.specs.Map.{name_of}
 use Rattle.machine_model.specs.declared.reason.Reason.{Reason}
 use Rattle.machine_model.specs.Event.{Event, Fetch, Exec, Flushes, Start as Begin, Stop, only}
@@ -28,7 +28,7 @@ use Rattle.turn_pieces.specs.Doing.{IsQuiet}
 use Rattle.turn_pieces.specs.Right.{AreFenced}
 use Rattle.turn_pieces.specs.Grows.{Grows, stays, makes, does, IsClosed, none, turn, IsChain, whole}
 use Rattle.turn_pieces.proofs.Writers.{grows_then}
-use Rattle.turn_pieces.proofs.Unmarked.{unmarked}
+use Rattle.turn_pieces.proofs.Unmarked.{zero_marked}
 use Rattle.turn_pieces.proofs.Rows.{step, code}
 
 -- the image has these instructions from 0x80000000 on, of which hart 1 begins at 0x80000018
@@ -109,7 +109,7 @@ abbrev pub add_code_3 : Log
 add_code_3 = did (executed 0) ∷ did (fetched 0 (Addi 10 0 (pos 1))) ∷ made (step 0 (first_ram_word + 4) Load 0 (encoding_of (Addi 10 0 (pos 1)) + 2 ^ 32 * encoding_of (Amoadd true false false 5 11 10))) ∷ made (step 0 5 Load 0 0) ∷ add_code_2
 
 abbrev pub add_stepped : Log
-add_stepped = made (step 0 (first_ram_word + 8) Add 1 0) ∷ did (fetched 0 (Amoadd true false false 5 11 10)) ∷ made (step 0 (first_ram_word + 4) Load 0 (encoding_of (Addi 10 0 (pos 1)) + 2 ^ 32 * encoding_of (Amoadd true false false 5 11 10))) ∷ made (step 0 5 Load 0 0) ∷ add_code_3
+add_stepped = made (step 0 (first_ram_word + 8) Add 1 0) ∷ made (step 0 first_dirty_word Or 1 0) ∷ did (fetched 0 (Amoadd true false false 5 11 10)) ∷ made (step 0 (first_ram_word + 4) Load 0 (encoding_of (Addi 10 0 (pos 1)) + 2 ^ 32 * encoding_of (Amoadd true false false 5 11 10))) ∷ made (step 0 5 Load 0 0) ∷ add_code_3
 
 abbrev pub add_turn : Log
 add_turn = made (step 0 8 Store 0 0) ∷ did (added 0 (0)) ∷ add_stepped
@@ -369,7 +369,7 @@ add_code_3_grows = does (executed 0) (does (fetched 0 (Addi 10 0 (pos 1))) (make
 
 add_stepped_grows : Grows two_harts 0 add_code_3 add_stepped
 unfolding name_of need_of done walk_of sbi_of perform own_executed flushing reads_of
-add_stepped_grows = makes (step 0 (first_ram_word + 8) Add 1 0) (does (fetched 0 (Amoadd true false false 5 11 10)) (makes (step 0 (first_ram_word + 4) Load 0 (encoding_of (Addi 10 0 (pos 1)) + 2 ^ 32 * encoding_of (Amoadd true false false 5 11 10))) (makes (step 0 5 Load 0 0) (stays)
+add_stepped_grows = makes (step 0 (first_ram_word + 8) Add 1 0) (makes (step 0 first_dirty_word Or 1 0) (does (fetched 0 (Amoadd true false false 5 11 10)) (makes (step 0 (first_ram_word + 4) Load 0 (encoding_of (Addi 10 0 (pos 1)) + 2 ^ 32 * encoding_of (Amoadd true false false 5 11 10))) (makes (step 0 5 Load 0 0) (stays)
     (record { behind = (tt, tt); acks = tt; draws_last = tt }))
     (record { behind = (tt, tt); acks = tt; draws_last = tt }))
     (record {
@@ -389,6 +389,7 @@ add_stepped_grows = makes (step 0 (first_ram_word + 8) Add 1 0) (does (fetched 0
       );
       pays = fetched_quiet 0 (Amoadd true false false 5 11 10);
     }))
+    (record { behind = (tt, tt); acks = tt; draws_last = tt }))
     (record { behind = (tt, tt); acks = tt; draws_last = tt })
 
 add_turn_grows : Grows two_harts 0 add_stepped add_turn
@@ -425,7 +426,7 @@ start_turn_closed = record {
   last = λ e. absurd (true≢false (sym e));
   left = refl;
   full = λ e. absurd (cc (e));
-  marks = λ page. unmarked two_harts 0 page start_turn refl;
+  marks = zero_marked two_harts 0 start_turn refl refl;
   snapshot = λ e. absurd (omega (arith, e));
 }
 
@@ -439,14 +440,14 @@ limit_turn_closed = record {
   last = λ e. absurd (true≢false (sym e));
   left = refl;
   full = λ e. absurd (cc (e));
-  marks = λ page. unmarked two_harts 0 page limit_turn refl;
+  marks = zero_marked two_harts 0 limit_turn refl refl;
   snapshot = λ e. absurd (omega (arith, e));
 }
 
 -- 2 turns
 pub first_hart_chain : IsChain two_harts 0 2 limit_turn
 unfolding name_of
-first_hart_chain = whole (turn (turn (none) (record { look = step 0 2 Load 0 0; looks = (refl, refl); grows = grows_then two_harts 0 start_look start_called (grows_then two_harts 0 start_look start_code_5 (grows_then two_harts 0 start_look start_code_4 (grows_then two_harts 0 start_look start_code_3 (grows_then two_harts 0 start_look start_code_2 (grows_then two_harts 0 start_look start_code_1 (grows_then two_harts 0 start_look start_inside (grows_then two_harts 0 start_look start_look (stays) start_inside_grows) start_code_1_grows) start_code_2_grows) start_code_3_grows) start_code_4_grows) start_code_5_grows) start_called_grows) start_turn_grows; closed = start_turn_closed })) (record { look = step 0 2 Load 0 0; looks = (refl, refl); grows = grows_then two_harts 0 add_look add_turn (grows_then two_harts 0 add_look add_stepped (grows_then two_harts 0 add_look add_code_3 (grows_then two_harts 0 add_look add_code_2 (grows_then two_harts 0 add_look add_code_1 (grows_then two_harts 0 add_look add_inside (grows_then two_harts 0 add_look add_look (stays) add_inside_grows) add_code_1_grows) add_code_2_grows) add_code_3_grows) add_stepped_grows) add_turn_grows) limit_turn_grows; closed = limit_turn_closed }))
+first_hart_chain = whole (turn (turn (none) (record { look = step 0 2 Load 0 0; looks = (refl, refl); once = refl; grows = grows_then two_harts 0 start_look start_called (grows_then two_harts 0 start_look start_code_5 (grows_then two_harts 0 start_look start_code_4 (grows_then two_harts 0 start_look start_code_3 (grows_then two_harts 0 start_look start_code_2 (grows_then two_harts 0 start_look start_code_1 (grows_then two_harts 0 start_look start_inside (grows_then two_harts 0 start_look start_look (stays) start_inside_grows) start_code_1_grows) start_code_2_grows) start_code_3_grows) start_code_4_grows) start_code_5_grows) start_called_grows) start_turn_grows; closed = start_turn_closed })) (record { look = step 0 2 Load 0 0; looks = (refl, refl); once = refl; grows = grows_then two_harts 0 add_look add_turn (grows_then two_harts 0 add_look add_stepped (grows_then two_harts 0 add_look add_code_3 (grows_then two_harts 0 add_look add_code_2 (grows_then two_harts 0 add_look add_code_1 (grows_then two_harts 0 add_look add_inside (grows_then two_harts 0 add_look add_look (stays) add_inside_grows) add_code_1_grows) add_code_2_grows) add_code_3_grows) add_stepped_grows) add_turn_grows) limit_turn_grows; closed = limit_turn_closed }))
 
 abbrev pub begin_look : Log
 begin_look = made (step 1 2 Load 0 0) ∷ []
@@ -470,7 +471,7 @@ abbrev pub second_code_3 : Log
 second_code_3 = did (executed 1) ∷ did (fetched 1 (Addi 10 0 (pos 1))) ∷ made (step 1 (first_ram_word + 4) Load 0 (encoding_of (Addi 10 0 (pos 1)) + 2 ^ 32 * encoding_of (Amoadd true false false 5 11 10))) ∷ made (step 1 5 Load 0 0) ∷ second_code_2
 
 abbrev pub second_stepped : Log
-second_stepped = made (step 1 (first_ram_word + 8) Add 1 1) ∷ did (fetched 1 (Amoadd true false false 5 11 10)) ∷ made (step 1 (first_ram_word + 4) Load 0 (encoding_of (Addi 10 0 (pos 1)) + 2 ^ 32 * encoding_of (Amoadd true false false 5 11 10))) ∷ made (step 1 5 Load 0 0) ∷ second_code_3
+second_stepped = made (step 1 (first_ram_word + 8) Add 1 1) ∷ made (step 1 first_dirty_word Or 1 1) ∷ did (fetched 1 (Amoadd true false false 5 11 10)) ∷ made (step 1 (first_ram_word + 4) Load 0 (encoding_of (Addi 10 0 (pos 1)) + 2 ^ 32 * encoding_of (Amoadd true false false 5 11 10))) ∷ made (step 1 5 Load 0 0) ∷ second_code_3
 
 abbrev pub second_turn : Log
 second_turn = made (step 1 24 Store 0 0) ∷ did (added 1 (1)) ∷ second_stepped
@@ -567,7 +568,7 @@ second_code_3_grows = does (executed 1) (does (fetched 1 (Addi 10 0 (pos 1))) (m
 
 second_stepped_grows : Grows two_harts 1 second_code_3 second_stepped
 unfolding name_of need_of done walk_of sbi_of perform own_executed flushing reads_of
-second_stepped_grows = makes (step 1 (first_ram_word + 8) Add 1 1) (does (fetched 1 (Amoadd true false false 5 11 10)) (makes (step 1 (first_ram_word + 4) Load 0 (encoding_of (Addi 10 0 (pos 1)) + 2 ^ 32 * encoding_of (Amoadd true false false 5 11 10))) (makes (step 1 5 Load 0 0) (stays)
+second_stepped_grows = makes (step 1 (first_ram_word + 8) Add 1 1) (makes (step 1 first_dirty_word Or 1 1) (does (fetched 1 (Amoadd true false false 5 11 10)) (makes (step 1 (first_ram_word + 4) Load 0 (encoding_of (Addi 10 0 (pos 1)) + 2 ^ 32 * encoding_of (Amoadd true false false 5 11 10))) (makes (step 1 5 Load 0 0) (stays)
     (record { behind = (tt, tt); acks = tt; draws_last = tt }))
     (record { behind = (tt, tt); acks = tt; draws_last = tt }))
     (record {
@@ -587,6 +588,7 @@ second_stepped_grows = makes (step 1 (first_ram_word + 8) Add 1 1) (does (fetche
       );
       pays = fetched_quiet 1 (Amoadd true false false 5 11 10);
     }))
+    (record { behind = (tt, tt); acks = tt; draws_last = tt }))
     (record { behind = (tt, tt); acks = tt; draws_last = tt })
 
 second_turn_grows : Grows two_harts 1 second_stepped second_turn
@@ -617,7 +619,7 @@ begin_turn_closed = record {
   last = λ e. absurd (true≢false (sym e));
   left = refl;
   full = λ e. absurd (cc (e));
-  marks = λ page. unmarked two_harts 1 page begin_turn refl;
+  marks = zero_marked two_harts 1 begin_turn refl refl;
   snapshot = λ e. absurd (omega (arith, e));
 }
 
@@ -631,11 +633,11 @@ second_turn_closed = record {
   last = λ e. absurd (true≢false (sym e));
   left = refl;
   full = λ e. absurd (cc (e));
-  marks = λ page. unmarked two_harts 1 page second_turn refl;
+  marks = zero_marked two_harts 1 second_turn refl refl;
   snapshot = λ e. absurd (omega (arith, e));
 }
 
 -- 2 turns
 pub second_hart_chain : IsChain two_harts 1 2 second_turn
 unfolding name_of
-second_hart_chain = whole (turn (turn (none) (record { look = step 1 2 Load 0 0; looks = (refl, refl); grows = grows_then two_harts 1 begin_look begin_look (stays) begin_turn_grows; closed = begin_turn_closed })) (record { look = step 1 2 Load 0 0; looks = (refl, refl); grows = grows_then two_harts 1 second_look second_stepped (grows_then two_harts 1 second_look second_code_3 (grows_then two_harts 1 second_look second_code_2 (grows_then two_harts 1 second_look second_code_1 (grows_then two_harts 1 second_look second_inside (grows_then two_harts 1 second_look second_look (stays) second_inside_grows) second_code_1_grows) second_code_2_grows) second_code_3_grows) second_stepped_grows) second_turn_grows; closed = second_turn_closed }))
+second_hart_chain = whole (turn (turn (none) (record { look = step 1 2 Load 0 0; looks = (refl, refl); once = refl; grows = grows_then two_harts 1 begin_look begin_look (stays) begin_turn_grows; closed = begin_turn_closed })) (record { look = step 1 2 Load 0 0; looks = (refl, refl); once = refl; grows = grows_then two_harts 1 second_look second_stepped (grows_then two_harts 1 second_look second_code_3 (grows_then two_harts 1 second_look second_code_2 (grows_then two_harts 1 second_look second_code_1 (grows_then two_harts 1 second_look second_inside (grows_then two_harts 1 second_look second_look (stays) second_inside_grows) second_code_1_grows) second_code_2_grows) second_code_3_grows) second_stepped_grows) second_turn_grows; closed = second_turn_closed }))

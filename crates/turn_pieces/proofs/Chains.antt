@@ -1,14 +1,15 @@
 -- Chains of turns grow by right.
-use Rattle.std.proofs.Common.{suc, ◌≢◌, ℕ, [], ◌∷◌}
+use Rattle.std.proofs.Common.{suc, List, refl, ◌∙◌, ◌≡◌, ◌≢◌, ℕ, [], ◌∷◌}
 use Rattle.step_laws.specs.declared.steps.Step.{Step}
+use Rattle.step_laws.specs.declared.steps.WordOp.{WordOp}
 use Rattle.step_laws.specs.declared.steps.WordOp.TheVariants.{Load}
-use Rattle.step_laws.specs.Map.{Stop}
+use Rattle.step_laws.specs.Map.{Word, Stop, name_of}
 use Rattle.machine_model.specs.State.{Setup}
 use Rattle.turn_pieces.specs.Draws.{filled, beyond}
 use Rattle.turn_pieces.specs.Log.{made, Log, steps_of}
 use Rattle.turn_pieces.specs.Owed.{owed, books, MayMake}
-use Rattle.turn_pieces.specs.Grows.{Grows, stays, makes, Part, IsClear, IsClosed, LooksAtStop, AreTurns, none, turn, rests, IsChain, whole, looks}
-use Rattle.turn_pieces.specs.Writers.{Turned}
+use Rattle.turn_pieces.specs.Grows.{Grows, stays, makes, Ends, look_next, looks_of, IsClear, IsClosed, LooksAtStop, AreTurns, none, turn, rests, IsChain, whole, looks}
+use Rattle.turn_pieces.specs.Writers.{IsPlain, AreCalm, quietly, Turned}
 use Rattle.turn_pieces.proofs.Writers.{grows_then, may_named, may_clear}
 
 -- a turn begins where nothing is owed
@@ -34,11 +35,20 @@ pub chain_grows : (u : Setup) (a : ℕ) {n : ℕ} {l : Log} → IsChain u a n l 
 chain_grows u a (whole k) = turns_grow u a k
 chain_grows u a (looks {l = l} s k x) = makes s (turns_grow u a k) (may_look u a l s (turns_clear u a k) (turns_full u a k) x)
 
--- for writers: a load of STOP, and a part behind it that leaves nothing open, are a turn
-pub part_turn : (P M Q : Setup → ℕ → Log → Type 0) (look : Step) → LooksAtStop look → ((u : Setup) (a : ℕ) (l : Log) → P u a l → M u a (made look ∷ l))
-    → Part M (λ u a late. IsClosed u a late × Q u a late) → Turned P Q
-part_turn P M Q look is begins goes = λ u a l p. let e = goes u a (made look ∷ l) (begins u a l p) in
-    record { late = e.late; turn = record { look = look; looks = is; grows = e.grows; closed = e.holds.0 }; holds = e.holds.1 }
+-- for writers: a load of STOP, and a part behind it that has no other and leaves nothing open, are a turn
+pub part_turn : (P Q : Setup → ℕ → Log → Type 0) (look : Step) → LooksAtStop look
+    → ((u : Setup) (a : ℕ) (l : Log) → P u a l → Ends u a (made look ∷ l) (λ late. IsClosed u a late × (looks_of late ≡ suc (looks_of l)) × Q u a late)) → Turned P Q
+part_turn P Q look is goes = λ u a l p. let e = goes u a l p in
+    record { late = e.late; turn = record { look = look; looks = is; grows = e.grows; once = e.holds.1; closed = e.holds.0 }; holds = e.holds.2 }
+
+-- quiet steps have no load of STOP
+plain_look : (a : ℕ) (w : Word) (op : WordOp) (n : ℕ) → IsPlain a w op → look_next w op n ≡ n
+plain_look a Stop Load n q = absurd q
+plain_look a w op n q = refl
+
+pub looks_quietly : (a : ℕ) (r : List Step) (l : Log) → AreCalm a r → looks_of (quietly r l) ≡ looks_of l
+looks_quietly a [] l c = refl
+looks_quietly a (s ∷ r) l c = plain_look a (name_of s.word) s.op (looks_of (quietly r l)) c.1 ∙ looks_quietly a r l c.2
 
 -- and turns go on by it
 pub turns_more : (P Q : Setup → ℕ → Log → Type 0) → Turned P Q → (u : Setup) (a n : ℕ) (l : Log) → AreTurns u a n l → P u a l → (late : Log) × AreTurns u a (suc n) late × Q u a late

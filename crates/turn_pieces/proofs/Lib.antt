@@ -5,6 +5,7 @@ pub mod Calls
 pub mod Accesses
 pub mod Chains
 pub mod KeptWalks
+pub mod Bits
 pub mod Unmarked
 pub mod Rows
 pub mod Wrong

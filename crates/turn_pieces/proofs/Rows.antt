@@ -195,6 +195,7 @@ unfolding name_of
 hello_chain = whole (turn none (record {
   look = load_stop;
   looks = (refl, refl);
+  once = refl;
   grows = grows_then u 0 (made load_stop ∷ []) three (grows_then u 0 (made load_stop ∷ []) two (grows_then u 0 (made load_stop ∷ []) one (grows_then u 0 (made load_stop ∷ []) inside inside_grows one_grows) two_grows) three_grows) hello_grows;
   closed = hello_closed;
 }))

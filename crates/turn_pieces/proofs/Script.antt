@@ -204,4 +204,4 @@ done_turn_closed = record {
 -- six turns, and one more without a step
 pub script_chain : IsChain scripted 8 7 done_turn
 unfolding name_of
-script_chain = whole (rests (turn (turn (turn (turn (turn (turn (none) (record { look = step 8 2 Load 0 0; looks = (refl, refl); grows = grows_then scripted 8 look awaited (grows_then scripted 8 look look (stays) awaited_grows) swapped_grows; closed = swapped_closed })) (record { look = step 8 2 Load 0 0; looks = (refl, refl); grows = grows_then scripted 8 second_look second_look (stays) passed_grows; closed = passed_closed })) (record { look = step 8 2 Load 0 0; looks = (refl, refl); grows = grows_then scripted 8 third_look third_look (stays) posted_grows; closed = posted_closed })) (record { look = step 8 2 Load 0 0; looks = (refl, refl); grows = grows_then scripted 8 fourth_look fourth_look (stays) replied_grows; closed = replied_closed })) (record { look = step 8 2 Load 0 0; looks = (refl, refl); grows = grows_then scripted 8 dump_look dump_loaded (grows_then scripted 8 dump_look dump_look (stays) dump_loaded_grows) dumped_grows; closed = dumped_closed })) (record { look = step 8 2 Load 0 0; looks = (refl, refl); grows = grows_then scripted 8 fifth_look fifth_look (stays) done_turn_grows; closed = done_turn_closed })) refl refl)
+script_chain = whole (rests (turn (turn (turn (turn (turn (turn (none) (record { look = step 8 2 Load 0 0; looks = (refl, refl); once = refl; grows = grows_then scripted 8 look awaited (grows_then scripted 8 look look (stays) awaited_grows) swapped_grows; closed = swapped_closed })) (record { look = step 8 2 Load 0 0; looks = (refl, refl); once = refl; grows = grows_then scripted 8 second_look second_look (stays) passed_grows; closed = passed_closed })) (record { look = step 8 2 Load 0 0; looks = (refl, refl); once = refl; grows = grows_then scripted 8 third_look third_look (stays) posted_grows; closed = posted_closed })) (record { look = step 8 2 Load 0 0; looks = (refl, refl); once = refl; grows = grows_then scripted 8 fourth_look fourth_look (stays) replied_grows; closed = replied_closed })) (record { look = step 8 2 Load 0 0; looks = (refl, refl); once = refl; grows = grows_then scripted 8 dump_look dump_loaded (grows_then scripted 8 dump_look dump_look (stays) dump_loaded_grows) dumped_grows; closed = dumped_closed })) (record { look = step 8 2 Load 0 0; looks = (refl, refl); once = refl; grows = grows_then scripted 8 fifth_look fifth_look (stays) done_turn_grows; closed = done_turn_closed })) refl refl)

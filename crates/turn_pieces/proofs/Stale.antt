@@ -396,4 +396,4 @@ second_turn_closed = record {
 
 pub stale_chain : IsChain paged 0 2 second_turn
 unfolding name_of
-stale_chain = whole (turn (turn (none) (record { look = step 0 2 Load 0 0; looks = (refl, refl); grows = grows_then paged 0 look walked (grows_then paged 0 look table_set (grows_then paged 0 look table_fetched (grows_then paged 0 look prepared_5 (grows_then paged 0 look prepared_4 (grows_then paged 0 look prepared_3 (grows_then paged 0 look prepared_2 (grows_then paged 0 look prepared_1 (grows_then paged 0 look inside (grows_then paged 0 look look (stays) inside_grows) prepared_1_grows) prepared_2_grows) prepared_3_grows) prepared_4_grows) prepared_5_grows) table_fetched_grows) table_set_grows) walked_grows) first_turn_grows; closed = first_turn_closed })) (record { look = step 0 2 Load 0 0; looks = (refl, refl); grows = grows_then paged 0 second_look walked_anew (grows_then paged 0 second_look fenced (grows_then paged 0 second_look fence_fetched (grows_then paged 0 second_look stale (grows_then paged 0 second_look second_inside (grows_then paged 0 second_look second_look (stays) second_inside_grows) stale_grows) fence_fetched_grows) fenced_grows) walked_anew_grows) second_turn_grows; closed = second_turn_closed }))
+stale_chain = whole (turn (turn (none) (record { look = step 0 2 Load 0 0; looks = (refl, refl); once = refl; grows = grows_then paged 0 look walked (grows_then paged 0 look table_set (grows_then paged 0 look table_fetched (grows_then paged 0 look prepared_5 (grows_then paged 0 look prepared_4 (grows_then paged 0 look prepared_3 (grows_then paged 0 look prepared_2 (grows_then paged 0 look prepared_1 (grows_then paged 0 look inside (grows_then paged 0 look look (stays) inside_grows) prepared_1_grows) prepared_2_grows) prepared_3_grows) prepared_4_grows) prepared_5_grows) table_fetched_grows) table_set_grows) walked_grows) first_turn_grows; closed = first_turn_closed })) (record { look = step 0 2 Load 0 0; looks = (refl, refl); once = refl; grows = grows_then paged 0 second_look walked_anew (grows_then paged 0 second_look fenced (grows_then paged 0 second_look fence_fetched (grows_then paged 0 second_look stale (grows_then paged 0 second_look second_inside (grows_then paged 0 second_look second_look (stays) second_inside_grows) stale_grows) fence_fetched_grows) fenced_grows) walked_anew_grows) second_turn_grows; closed = second_turn_closed }))

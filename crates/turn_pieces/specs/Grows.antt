@@ -1,8 +1,9 @@
 -- Logs that go on by lawful steps and events, parts of turns, and turns.
 use Rattle.std.specs.Prelude.{◌≡◌, ◌≢◌, ℕ, suc, true, false, [], ◌∷◌, None}
 use Rattle.step_laws.specs.declared.steps.Step.{Step}
+use Rattle.step_laws.specs.declared.steps.WordOp.{WordOp}
 use Rattle.step_laws.specs.declared.steps.WordOp.TheVariants.{Load}
-use Rattle.step_laws.specs.Map.{Stop, name_of}
+use Rattle.step_laws.specs.Map.{Word, Stop, name_of}
 use Rattle.step_laws.specs.Harts.{is_owing}
 use Rattle.machine_model.specs.Event.{Event}
 use Rattle.machine_model.specs.State.{Setup}
@@ -59,11 +60,22 @@ pub record IsClosed (u : Setup) (a : ℕ) (l : Log) : Type 0 where
 abbrev pub LooksAtStop : Step → Type 0
 LooksAtStop s = (name_of s.word ≡ Stop) × (s.op ≡ Load)
 
--- one turn: it begins with a load of STOP
+abbrev pub look_next : Word → WordOp → ℕ → ℕ
+look_next Stop Load n = suc n
+look_next _ _ n = n
+
+-- how often the actor has loaded STOP
+abbrev pub looks_of : Log → ℕ
+looks_of [] = 0
+looks_of (made s ∷ l) = look_next (name_of s.word) s.op (looks_of l)
+looks_of (did e ∷ l) = looks_of l
+
+-- one turn: it begins with a load of STOP, and has no other
 pub record IsTurn (u : Setup) (a : ℕ) (l late : Log) : Type 0 where
   pub look : Step
   pub looks : LooksAtStop look
   pub grows : Grows u a (made look ∷ l) late
+  pub once : looks_of late ≡ suc (looks_of l)
   pub closed : IsClosed u a late
 
 -- so many turns, one behind another
