@@ -17,3 +17,4 @@ pub mod Turns
 pub mod LoaderRuns
 pub mod SeatsMade
 pub mod Aside
+pub mod MarkRows
