@@ -25,9 +25,12 @@ pub fn post<P: Port>(port: &mut P, target: u8, place: u8, request: u64) -> Resul
     ensures goes { GoesBy 2 IsOfPlaces (P.shows port.old) (P.shows port.new) }
 {
     let word = place_word(target, port.actor(), place);
-    let found = port.load(word);
-    if found != 0 {
-        return Err(Seen { word, value: found });
+    let standing = port.load(word);
+    if standing != 0 {
+        return Err(Seen {
+            word,
+            value: standing,
+        });
     }
     port.store(word, request);
     Ok(())
