@@ -23,6 +23,20 @@ fn options(harts: u8, pages: u32, limit: u64, regs: bool) -> Option<Said> {
     Some(("e", "o", harts, pages, limit, regs))
 }
 
+fn said_here(words: &[String]) -> Option<(&str, &str, u8, u32, u64, bool)> {
+    let Some(Line::Plain { elf, order, asked }) = read_line(words) else {
+        return None;
+    };
+    Some((
+        elf,
+        order,
+        asked.harts,
+        asked.pages,
+        asked.limit,
+        asked.regs,
+    ))
+}
+
 fn compare(
     rt: &impl Abort,
     alloc: Global,
@@ -33,17 +47,7 @@ fn compare(
     for word in line.split(' ') {
         words.push(String::from_str(alloc, word)?)?;
     }
-    let said = read_line(&words).map(|line| {
-        let Line::Plain { elf, order, asked } = line;
-        (
-            elf,
-            order,
-            asked.harts,
-            asked.pages,
-            asked.limit,
-            asked.regs,
-        )
-    });
+    let said = said_here(&words);
     assert_eq!(rt; said, want, "{line}");
     Ok(())
 }
