@@ -1,5 +1,5 @@
 -- The parts of an image that was read from a file lie in the file and in RAM.
-use Rattle.std.proofs.Common.{◌≡◌, refl, ◌≤◌, ◌<◌, ◌+◌, ◌*◌, ◌^◌, ℕ, List, [], ◌∷◌, ◌++◌, map, Some, None, Option, Ok, true, false, Bool, not, ◌&&◌, ◌||◌, sym, ◌∙◌, subst, arith}
+use Rattle.std.proofs.Common.{◌≡◌, refl, ◌≤◌, ◌+◌, ◌*◌, ◌^◌, ℕ, List, [], ◌∷◌, ◌++◌, map, Some, None, Option, Ok, true, false, Bool, not, ◌&&◌, ◌||◌, sym, ◌∙◌, subst, arith}
 use Rattle.std.specs.Prelude.{length, nat_le, nat_lt}
 use Rattle.std.proofs.lemmas.Bool.{leb-true, ltb-false}
 use Rattle.elf_load.specs.declared.image.BadImage.{BadImage}

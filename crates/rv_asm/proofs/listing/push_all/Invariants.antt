@@ -1,4 +1,4 @@
-use Rattle.std.proofs.Common.{◌≡◌, drop}
+use Rattle.std.proofs.Common.{drop}
 use Rattle.std.specs.Prelude.{string_bytes}
 use Rattle.rv_asm.specs.Lists.{AreInFile}
 use Rattle.rv_asm.proofs.Listed.{LeadsToParts}

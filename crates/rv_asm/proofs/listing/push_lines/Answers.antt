@@ -1,8 +1,7 @@
-use Rattle.std.proofs.Common.{◌≡◌, ◌+◌, ◌-◌, ℕ, ◌++◌, List, ap, subst, sym, ◌∙◌, arith}
-use Rattle.std.specs.Prelude.{string_bytes, slice_range}
+use Rattle.std.proofs.Common.{◌≡◌, ℕ, ◌++◌, ap, subst, sym, ◌∙◌, arith}
+use Rattle.std.specs.Prelude.{string_bytes}
 use Rattle.rv64_decode.specs.Encoding.{Decodes}
-use Rattle.elf_load.specs.Header.{number_at}
-use Rattle.rv_asm.specs.Listing.{word_line, rest_line}
+use Rattle.rv_asm.specs.Listing.{word_line}
 use Rattle.rv_asm.specs.Lists.{Lists}
 use Rattle.rv_asm.proofs.Listed.{lists_word, lists_rest, lists_nothing}
 use Rattle.rv_asm.proofs.listing.push_lines.Goals as goal

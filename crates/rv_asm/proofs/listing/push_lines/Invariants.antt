@@ -1,4 +1,4 @@
-use Rattle.std.proofs.Common.{◌≡◌, ◌≤◌, ◌+◌, ◌^◌, length}
+use Rattle.std.proofs.Common.{◌≤◌, ◌+◌, ◌^◌, length}
 use Rattle.std.specs.Prelude.{string_bytes}
 use Rattle.rv_asm.proofs.Listed.{LeadsTo}
 use Rattle.rv_asm.proofs.listing.push_lines.Given as goal
