@@ -6,7 +6,7 @@ use std::test::Fail;
 use tlbvm::{Line, read_line};
 
 /// What a line says: ELF, ORDER, harts, pages, limit and regs.
-type Said<'a> = (&'a str, &'a str, u8, u32, u64, bool);
+pub(crate) type Said<'a> = (&'a str, &'a str, u8, u32, u64, bool);
 
 /// A number where none is asked for.
 const HARTS: u8 = 1;
@@ -160,7 +160,8 @@ fn said_by<'a>(matches: &ArgMatches<'a>) -> Option<Said<'a>> {
     ))
 }
 
-fn said_here<'a>(words: &'a [String]) -> Option<Said<'a>> {
+/// What a line is here: ELF, ORDER, harts, pages, limit and regs.
+pub(crate) fn said_here<'a>(words: &'a [String]) -> Option<Said<'a>> {
     let Some(Line::Plain { elf, order, asked }) = read_line(words) else {
         return None;
     };

@@ -1,8 +1,9 @@
 // Lines whose words stand apart by one space each, and what the grammar says that they say.
+use crate::lines::said_here;
 use std::alloc::{AllocError, Global};
 use std::process::Abort;
 use std::test::Fail;
-use tlbvm::{Line, read_line};
+use tlbvm::read_line;
 
 /// What a line says: ELF, ORDER, harts, pages, limit and regs.
 type Said = (&'static str, &'static str, u8, u32, u64, bool);
@@ -33,17 +34,7 @@ fn compare(
     for word in line.split(' ') {
         words.push(String::from_str(alloc, word)?)?;
     }
-    let said = match read_line(&words) {
-        Some(Line::Plain { elf, order, asked }) => Some((
-            elf,
-            order,
-            asked.harts,
-            asked.pages,
-            asked.limit,
-            asked.regs,
-        )),
-        _ => None,
-    };
+    let said = said_here(&words);
     assert_eq!(rt; said, want, "{line}");
     Ok(())
 }
