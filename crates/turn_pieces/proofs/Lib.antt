@@ -11,6 +11,8 @@ pub mod Rows
 pub mod Wrong
 pub mod TwoHarts
 pub mod AtLimit
+pub mod Hello
+pub mod Crossing
 mod Stale
 mod Moved
 mod Script

@@ -1,0 +1,57 @@
+-- A whole guest's run: the whole list of events is written by hand, the history of steps reads exactly it, and at its end stand what the
+-- guest printed and why it ended.
+use Rattle.std.proofs.Common.{◌≡◌, ◌+◌, ◌*◌, ◌^◌, true, List, [], ◌∷◌, ◌++◌, Some, refl, pos}
+use Rattle.rv64_decode.specs.declared.instruction.Instr.TheVariants.{Lui, Addi, Sb, Sw}
+use Rattle.rv64_decode.specs.Encoding.{encoding_of}
+use Rattle.rv64_priv.specs.Walk.{walk_of}
+use Rattle.rv64_exec.specs.Plan.{need_of}
+use Rattle.rv64_exec.specs.Finish.{done}
+use Rattle.step_laws.specs.declared.steps.Step.{Step}
+use Rattle.step_laws.specs.declared.steps.WordOp.TheVariants.{Load, Store, Add, Exchange}
+use Rattle.step_laws.specs.Words.{first_ram_word, first_console_word, loader}
+use Rattle.step_laws.specs.Map.{Stop, Cons, number_of}
+use Rattle.step_laws.specs.Steps.{value_at}
+use Rattle.machine_model.specs.declared.reason.Reason.{Reason}
+use Rattle.machine_model.specs.Event.{Event}
+use Rattle.machine_model.specs.ReasonWords.{reason_in}
+use Rattle.machine_model.specs.Change.{executed as executing}
+use Rattle.machine_model.specs.Run.{state_of}
+use Rattle.turn_pieces.specs.Log.{made, did, Log, steps_of, events_of}
+use Rattle.turn_pieces.proofs.Rows.{step}
+use Rattle.turn_pieces.proofs.Hello.{guest, fetched, executed, printed, ended, hello}
+use Rattle.run_laws.specs.Read.{own_items}
+use Rattle.run_laws.proofs.Rows.{answers_hold}
+
+abbrev all : Log
+all = made (step 0 2 Load 0 1) ∷ made (step 0 8 Store 0 0) ∷ did (ended) ∷ made (step 0 2 (Exchange 0) 1 0) ∷ did (fetched 0 (Sw 5 6 (pos 0))) ∷ made (step 0 (first_ram_word + 5) Load 0 (encoding_of (Sw 5 6 (pos 0)))) ∷ made (step 0 5 Load 0 0) ∷ did (executed 0) ∷ did (fetched 0 (Addi 6 6 (pos 0x555))) ∷ made (step 0 (first_ram_word + 4) Load 0 (encoding_of (Lui 6 (pos 0x5000)) + 2 ^ 32 * encoding_of (Addi 6 6 (pos 0x555)))) ∷ made (step 0 5 Load 0 0) ∷ did (executed 0) ∷ did (fetched 0 (Lui 6 (pos 0x5000))) ∷ made (step 0 (first_ram_word + 4) Load 0 (encoding_of (Lui 6 (pos 0x5000)) + 2 ^ 32 * encoding_of (Addi 6 6 (pos 0x555)))) ∷ made (step 0 5 Load 0 0) ∷ did (executed 0) ∷ did (fetched 0 (Lui 5 (pos 0x100000))) ∷ made (step 0 (first_ram_word + 3) Load 0 (encoding_of (Sb 5 6 (pos 0)) + 2 ^ 32 * encoding_of (Lui 5 (pos 0x100000)))) ∷ made (step 0 5 Load 0 0) ∷ made (step 0 (first_console_word + 2) Store (10 + 256) 0) ∷ did (printed 10) ∷ made (step 0 4 Add 1 2) ∷ did (fetched 0 (Sb 5 6 (pos 0))) ∷ made (step 0 (first_ram_word + 3) Load 0 (encoding_of (Sb 5 6 (pos 0)) + 2 ^ 32 * encoding_of (Lui 5 (pos 0x100000)))) ∷ made (step 0 5 Load 0 0) ∷ did (executed 0) ∷ did (fetched 0 (Addi 6 0 (pos 10))) ∷ made (step 0 (first_ram_word + 2) Load 0 (encoding_of (Sb 5 6 (pos 0)) + 2 ^ 32 * encoding_of (Addi 6 0 (pos 10)))) ∷ made (step 0 5 Load 0 0) ∷ made (step 0 (first_console_word + 1) Store (75 + 256) 0) ∷ did (printed 75) ∷ made (step 0 4 Add 1 1) ∷ did (fetched 0 (Sb 5 6 (pos 0))) ∷ made (step 0 (first_ram_word + 2) Load 0 (encoding_of (Sb 5 6 (pos 0)) + 2 ^ 32 * encoding_of (Addi 6 0 (pos 10)))) ∷ made (step 0 5 Load 0 0) ∷ did (executed 0) ∷ did (fetched 0 (Addi 6 0 (pos 75))) ∷ made (step 0 (first_ram_word + 1) Load 0 (encoding_of (Sb 5 6 (pos 0)) + 2 ^ 32 * encoding_of (Addi 6 0 (pos 75)))) ∷ made (step 0 5 Load 0 0) ∷ made (step 0 first_console_word Store (79 + 256) 0) ∷ did (printed 79) ∷ made (step 0 4 Add 1 0) ∷ did (fetched 0 (Sb 5 6 (pos 0))) ∷ made (step 0 (first_ram_word + 1) Load 0 (encoding_of (Sb 5 6 (pos 0)) + 2 ^ 32 * encoding_of (Addi 6 0 (pos 75)))) ∷ made (step 0 5 Load 0 0) ∷ did (executed 0) ∷ did (fetched 0 (Addi 6 0 (pos 79))) ∷ made (step 0 first_ram_word Load 0 (encoding_of (Lui 5 (pos 0x10000000)) + 2 ^ 32 * encoding_of (Addi 6 0 (pos 79)))) ∷ made (step 0 5 Load 0 0) ∷ did (executed 0) ∷ did (fetched 0 (Lui 5 (pos 0x10000000))) ∷ made (step 0 first_ram_word Load 0 (encoding_of (Lui 5 (pos 0x10000000)) + 2 ^ 32 * encoding_of (Addi 6 0 (pos 79)))) ∷ made (step 0 5 Load 0 0) ∷ made (step 0 1 Load 0 0) ∷ made (step 0 8 Store 1 0) ∷ made (step 0 2 Load 0 0) ∷ []
+
+abbrev run : List Event
+run = ended ∷ fetched 0 (Sw 5 6 (pos 0)) ∷ executed 0 ∷ fetched 0 (Addi 6 6 (pos 0x555)) ∷ executed 0 ∷ fetched 0 (Lui 6 (pos 0x5000)) ∷ executed 0 ∷ fetched 0 (Lui 5 (pos 0x100000)) ∷ printed 10 ∷ fetched 0 (Sb 5 6 (pos 0)) ∷ executed 0 ∷ fetched 0 (Addi 6 0 (pos 10)) ∷ printed 75 ∷ fetched 0 (Sb 5 6 (pos 0)) ∷ executed 0 ∷ fetched 0 (Addi 6 0 (pos 75)) ∷ printed 79 ∷ fetched 0 (Sb 5 6 (pos 0)) ∷ executed 0 ∷ fetched 0 (Addi 6 0 (pos 79)) ∷ executed 0 ∷ fetched 0 (Lui 5 (pos 0x10000000)) ∷ []
+
+-- what the loader stored of that: LIVE and the code
+abbrev stores : List Step
+stores = step loader 3 Store 1 0 ∷ step loader first_ram_word Store (encoding_of (Lui 5 (pos 0x10000000)) + 2 ^ 32 * encoding_of (Addi 6 0 (pos 79))) 0 ∷ step loader (first_ram_word + 1) Store (encoding_of (Sb 5 6 (pos 0)) + 2 ^ 32 * encoding_of (Addi 6 0 (pos 75))) 0 ∷ step loader (first_ram_word + 2) Store (encoding_of (Sb 5 6 (pos 0)) + 2 ^ 32 * encoding_of (Addi 6 0 (pos 10))) 0 ∷ step loader (first_ram_word + 3) Store (encoding_of (Sb 5 6 (pos 0)) + 2 ^ 32 * encoding_of (Lui 5 (pos 0x100000))) 0 ∷ step loader (first_ram_word + 4) Store (encoding_of (Lui 6 (pos 0x5000)) + 2 ^ 32 * encoding_of (Addi 6 6 (pos 0x555))) 0 ∷ step loader (first_ram_word + 5) Store (encoding_of (Sw 5 6 (pos 0))) 0 ∷ []
+
+answers : answers_hold (steps_of all ++ stores) ≡ true
+answers = refl
+
+log_is_own : own_items 0 all ≡ made (step 0 2 Load 0 1) ∷ hello
+log_is_own = refl
+
+events_are : events_of all ≡ run
+events_are = refl
+
+-- O, K and a line feed
+output_is : (state_of guest run).output ≡ 79 ∷ 75 ∷ 10 ∷ []
+unfolding need_of done walk_of executing
+output_is = refl
+
+console_is : (value_at (number_of Cons) (steps_of all ++ stores) ∷ value_at first_console_word (steps_of all ++ stores) ∷ value_at (first_console_word + 1) (steps_of all ++ stores) ∷ value_at (first_console_word + 2) (steps_of all ++ stores) ∷ []) ≡ (3 ∷ (79 + 256) ∷ (75 + 256) ∷ (10 + 256) ∷ [])
+console_is = refl
+
+reason_is : (state_of guest run).reason ≡ Some Reason.Pass
+unfolding need_of done walk_of executing
+reason_is = refl
+
+stop_is : reason_in (value_at (number_of Stop) (steps_of all ++ stores)) ≡ Some Reason.Pass
+stop_is = refl
