@@ -13,6 +13,9 @@ pub mod TwoHarts
 pub mod AtLimit
 pub mod Hello
 pub mod Crossing
+pub mod FenceServed
+pub mod FenceAsked
+mod OldWalk
 mod Stale
 mod Moved
 mod Script
