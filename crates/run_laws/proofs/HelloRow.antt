@@ -1,6 +1,6 @@
 -- A whole guest's run: the whole list of events is written by hand, the history of steps reads exactly it, and at its end stand what the
 -- guest printed and why it ended.
-use Rattle.std.proofs.Common.{◌≡◌, ◌+◌, ◌*◌, ◌^◌, true, List, [], ◌∷◌, ◌++◌, Some, refl, pos}
+use Rattle.std.proofs.Common.{◌≡◌, ◌+◌, ◌*◌, ◌^◌, true, List, [], ◌∷◌, ◌++◌, Some, refl, inl, arith, pos}
 use Rattle.rv64_decode.specs.declared.instruction.Instr.TheVariants.{Lui, Addi, Sb, Sw}
 use Rattle.rv64_decode.specs.Encoding.{encoding_of}
 use Rattle.rv64_priv.specs.Walk.{walk_of}
@@ -9,8 +9,10 @@ use Rattle.rv64_exec.specs.Finish.{done}
 use Rattle.step_laws.specs.declared.steps.Step.{Step}
 use Rattle.step_laws.specs.declared.steps.WordOp.TheVariants.{Load, Store, Add, Exchange}
 use Rattle.step_laws.specs.Words.{first_ram_word, first_console_word, loader}
-use Rattle.step_laws.specs.Map.{Stop, Cons, number_of}
-use Rattle.step_laws.specs.Steps.{value_at}
+use Rattle.step_laws.specs.Map.{Stop, Cons, number_of, name_of}
+use Rattle.step_laws.specs.Fields.{pass}
+use Rattle.step_laws.specs.Discipline.{IsDisciplined, by_actor, raise, ask, lower, read_ram, touch_ipi, load_stop, set_stop, draw, print}
+use Rattle.step_laws.specs.Steps.{value_at, own_steps}
 use Rattle.machine_model.specs.declared.reason.Reason.{Reason}
 use Rattle.machine_model.specs.Event.{Event}
 use Rattle.machine_model.specs.ReasonWords.{reason_in}
@@ -18,7 +20,7 @@ use Rattle.machine_model.specs.Change.{executed as executing}
 use Rattle.machine_model.specs.Run.{state_of}
 use Rattle.turn_pieces.specs.Log.{made, did, Log, steps_of, events_of}
 use Rattle.turn_pieces.proofs.Rows.{step}
-use Rattle.turn_pieces.proofs.Hello.{guest, fetched, executed, printed, ended, hello}
+use Rattle.turn_pieces.proofs.Hello.{guest, fetched, executed, printed, ended, look, inside, device, first_byte, first_printed, second_byte, second_printed, third_byte, third_printed, finisher, upper, passing, hello}
 use Rattle.run_laws.specs.Read.{own_items}
 use Rattle.run_laws.proofs.Rows.{answers_hold}
 
@@ -37,6 +39,63 @@ answers = refl
 
 log_is_own : own_items 0 all ≡ made (step 0 2 Load 0 1) ∷ hello
 log_is_own = refl
+
+look_kept : IsDisciplined guest.layout 0 true (steps_of look)
+unfolding name_of
+look_kept = (by_actor (inl (omega arith)) refl (load_stop), tt)
+
+inside_kept : IsDisciplined guest.layout 0 true (steps_of inside)
+unfolding name_of
+inside_kept = (by_actor (inl (omega arith)) refl (ask refl), (by_actor (inl (omega arith)) refl (raise (refl, refl)), look_kept))
+
+device_kept : IsDisciplined guest.layout 0 true (steps_of device)
+unfolding name_of
+device_kept = (by_actor (inl (omega arith)) refl (read_ram (inl refl)), (by_actor (inl (omega arith)) refl (touch_ipi (inl refl)), inside_kept))
+
+first_byte_kept : IsDisciplined guest.layout 0 true (steps_of first_byte)
+unfolding name_of
+first_byte_kept = (by_actor (inl (omega arith)) refl (read_ram (inl refl)), (by_actor (inl (omega arith)) refl (touch_ipi (inl refl)), device_kept))
+
+first_printed_kept : IsDisciplined guest.layout 0 true (steps_of first_printed)
+unfolding name_of
+first_printed_kept = (by_actor (inl (omega arith)) refl (draw (inl refl)), (by_actor (inl (omega arith)) refl (read_ram (inl refl)), (by_actor (inl (omega arith)) refl (touch_ipi (inl refl)), first_byte_kept)))
+
+second_byte_kept : IsDisciplined guest.layout 0 true (steps_of second_byte)
+unfolding name_of
+second_byte_kept = (by_actor (inl (omega arith)) refl (read_ram (inl refl)), (by_actor (inl (omega arith)) refl (touch_ipi (inl refl)), (by_actor (inl (omega arith)) refl (print (inl refl) refl (omega arith, omega arith)), first_printed_kept)))
+
+second_printed_kept : IsDisciplined guest.layout 0 true (steps_of second_printed)
+unfolding name_of
+second_printed_kept = (by_actor (inl (omega arith)) refl (draw (inl refl)), (by_actor (inl (omega arith)) refl (read_ram (inl refl)), (by_actor (inl (omega arith)) refl (touch_ipi (inl refl)), second_byte_kept)))
+
+third_byte_kept : IsDisciplined guest.layout 0 true (steps_of third_byte)
+unfolding name_of
+third_byte_kept = (by_actor (inl (omega arith)) refl (read_ram (inl refl)), (by_actor (inl (omega arith)) refl (touch_ipi (inl refl)), (by_actor (inl (omega arith)) refl (print (inl refl) refl (omega arith, omega arith)), second_printed_kept)))
+
+third_printed_kept : IsDisciplined guest.layout 0 true (steps_of third_printed)
+unfolding name_of
+third_printed_kept = (by_actor (inl (omega arith)) refl (draw (inl refl)), (by_actor (inl (omega arith)) refl (read_ram (inl refl)), (by_actor (inl (omega arith)) refl (touch_ipi (inl refl)), third_byte_kept)))
+
+finisher_kept : IsDisciplined guest.layout 0 true (steps_of finisher)
+unfolding name_of
+finisher_kept = (by_actor (inl (omega arith)) refl (read_ram (inl refl)), (by_actor (inl (omega arith)) refl (touch_ipi (inl refl)), (by_actor (inl (omega arith)) refl (print (inl refl) refl (omega arith, omega arith)), third_printed_kept)))
+
+upper_kept : IsDisciplined guest.layout 0 true (steps_of upper)
+unfolding name_of
+upper_kept = (by_actor (inl (omega arith)) refl (read_ram (inl refl)), (by_actor (inl (omega arith)) refl (touch_ipi (inl refl)), finisher_kept))
+
+passing_kept : IsDisciplined guest.layout 0 true (steps_of passing)
+unfolding name_of
+passing_kept = (by_actor (inl (omega arith)) refl (read_ram (inl refl)), (by_actor (inl (omega arith)) refl (touch_ipi (inl refl)), upper_kept))
+
+hello_kept : IsDisciplined guest.layout 0 true (steps_of hello)
+unfolding name_of
+hello_kept = (by_actor (inl (omega arith)) refl (lower), (by_actor (inl (omega arith)) refl (set_stop (pass refl)), (by_actor (inl (omega arith)) refl (read_ram (inl refl)), (by_actor (inl (omega arith)) refl (touch_ipi (inl refl)), passing_kept))))
+
+-- the hart keeps to the discipline: the list is a history's
+hart_kept : IsDisciplined guest.layout 0 true (own_steps 0 (steps_of all ++ stores))
+unfolding name_of
+hart_kept = (by_actor (inl (omega arith)) refl (load_stop), hello_kept)
 
 events_are : events_of all ≡ run
 events_are = refl

@@ -99,11 +99,11 @@ finisher = did (executed 0) ∷ did (fetched 0 (Lui 5 (pos 0x100000))) ∷ made 
 abbrev pub upper : Log
 upper = did (executed 0) ∷ did (fetched 0 (Lui 6 (pos 0x5000))) ∷ made (step 0 (first_ram_word + 4) Load 0 (encoding_of (Lui 6 (pos 0x5000)) + 2 ^ 32 * encoding_of (Addi 6 6 (pos 0x555)))) ∷ made (step 0 5 Load 0 0) ∷ finisher
 
-abbrev pub pass : Log
-pass = did (executed 0) ∷ did (fetched 0 (Addi 6 6 (pos 0x555))) ∷ made (step 0 (first_ram_word + 4) Load 0 (encoding_of (Lui 6 (pos 0x5000)) + 2 ^ 32 * encoding_of (Addi 6 6 (pos 0x555)))) ∷ made (step 0 5 Load 0 0) ∷ upper
+abbrev pub passing : Log
+passing = did (executed 0) ∷ did (fetched 0 (Addi 6 6 (pos 0x555))) ∷ made (step 0 (first_ram_word + 4) Load 0 (encoding_of (Lui 6 (pos 0x5000)) + 2 ^ 32 * encoding_of (Addi 6 6 (pos 0x555)))) ∷ made (step 0 5 Load 0 0) ∷ upper
 
 abbrev pub hello : Log
-hello = made (step 0 8 Store 0 0) ∷ did (ended) ∷ made (step 0 2 (Exchange 0) 1 0) ∷ did (fetched 0 (Sw 5 6 (pos 0))) ∷ made (step 0 (first_ram_word + 5) Load 0 (encoding_of (Sw 5 6 (pos 0)))) ∷ made (step 0 5 Load 0 0) ∷ pass
+hello = made (step 0 8 Store 0 0) ∷ did (ended) ∷ made (step 0 2 (Exchange 0) 1 0) ∷ did (fetched 0 (Sw 5 6 (pos 0))) ∷ made (step 0 (first_ram_word + 5) Load 0 (encoding_of (Sw 5 6 (pos 0)))) ∷ made (step 0 5 Load 0 0) ∷ passing
 
 inside_grows : Grows guest 0 look inside
 unfolding name_of need_of done walk_of sbi_of perform own_executed flushing reads_of
@@ -189,15 +189,15 @@ upper_grows = does (executed 0) (does (fetched 0 (Lui 6 (pos 0x5000))) (makes (s
     (record { own = refl; fit = (omega arith, record { runs = refl; holds_none = refl; not_due = refl; ipi = 0; loaded = (inr (inl ((refl, refl, refl), tt))); quiet = refl; shown = record { finds = λ x. 0; is_end = refl; stood = tt }; fetched = (refl, refl, refl, ((omega arith, (omega arith, omega arith), refl), refl)) }); pays = fetched_quiet 0 (Lui 6 (pos 0x5000)) }))
     (record { own = refl; fit = (omega arith, record { holds = refl; shown = tt; flushed = λ w s. tt; right = λ w s. refl }); pays = executed_quiet 0 })
 
-pass_grows : Grows guest 0 upper pass
+passing_grows : Grows guest 0 upper passing
 unfolding name_of need_of done walk_of sbi_of perform own_executed flushing reads_of
-pass_grows = does (executed 0) (does (fetched 0 (Addi 6 6 (pos 0x555))) (makes (step 0 (first_ram_word + 4) Load 0 (encoding_of (Lui 6 (pos 0x5000)) + 2 ^ 32 * encoding_of (Addi 6 6 (pos 0x555)))) (makes (step 0 5 Load 0 0) (stays)
+passing_grows = does (executed 0) (does (fetched 0 (Addi 6 6 (pos 0x555))) (makes (step 0 (first_ram_word + 4) Load 0 (encoding_of (Lui 6 (pos 0x5000)) + 2 ^ 32 * encoding_of (Addi 6 6 (pos 0x555)))) (makes (step 0 5 Load 0 0) (stays)
     (record { behind = (tt, tt); acks = tt; draws_last = tt }))
     (record { behind = (tt, tt); acks = tt; draws_last = tt }))
     (record { own = refl; fit = (omega arith, record { runs = refl; holds_none = refl; not_due = refl; ipi = 0; loaded = (inr (inl ((refl, refl, refl), tt))); quiet = refl; shown = record { finds = λ x. 0; is_end = refl; stood = tt }; fetched = (refl, refl, refl, ((omega arith, omega arith, (omega arith, omega arith)), refl)) }); pays = fetched_quiet 0 (Addi 6 6 (pos 0x555)) }))
     (record { own = refl; fit = (omega arith, record { holds = refl; shown = tt; flushed = λ w s. tt; right = λ w s. refl }); pays = executed_quiet 0 })
 
-hello_grows : Grows guest 0 pass hello
+hello_grows : Grows guest 0 passing hello
 unfolding name_of need_of done walk_of sbi_of perform own_executed flushing reads_of
 hello_grows = makes (step 0 8 Store 0 0) (does (ended) (makes (step 0 2 (Exchange 0) 1 0) (does (fetched 0 (Sw 5 6 (pos 0))) (makes (step 0 (first_ram_word + 5) Load 0 (encoding_of (Sw 5 6 (pos 0)))) (makes (step 0 5 Load 0 0) (stays)
     (record { behind = (tt, tt); acks = tt; draws_last = tt }))
@@ -224,4 +224,4 @@ hello_closed = record {
 -- 1 turns, and a look at STOP
 pub hello_chain : IsChain guest 0 1 (made (step 0 2 Load 0 1) ∷ hello)
 unfolding name_of
-hello_chain = looks (step 0 2 Load 0 1) (turn (none) (record { look = step 0 2 Load 0 0; looks = (refl, refl); once = refl; grows = grows_then guest 0 look pass (grows_then guest 0 look upper (grows_then guest 0 look finisher (grows_then guest 0 look third_printed (grows_then guest 0 look third_byte (grows_then guest 0 look second_printed (grows_then guest 0 look second_byte (grows_then guest 0 look first_printed (grows_then guest 0 look first_byte (grows_then guest 0 look device (grows_then guest 0 look inside (grows_then guest 0 look look (stays) inside_grows) device_grows) first_byte_grows) first_printed_grows) second_byte_grows) second_printed_grows) third_byte_grows) third_printed_grows) finisher_grows) upper_grows) pass_grows) hello_grows; closed = hello_closed })) (refl, refl)
+hello_chain = looks (step 0 2 Load 0 1) (turn (none) (record { look = step 0 2 Load 0 0; looks = (refl, refl); once = refl; grows = grows_then guest 0 look passing (grows_then guest 0 look upper (grows_then guest 0 look finisher (grows_then guest 0 look third_printed (grows_then guest 0 look third_byte (grows_then guest 0 look second_printed (grows_then guest 0 look second_byte (grows_then guest 0 look first_printed (grows_then guest 0 look first_byte (grows_then guest 0 look device (grows_then guest 0 look inside (grows_then guest 0 look look (stays) inside_grows) device_grows) first_byte_grows) first_printed_grows) second_byte_grows) second_printed_grows) third_byte_grows) third_printed_grows) finisher_grows) upper_grows) passing_grows) hello_grows; closed = hello_closed })) (refl, refl)
