@@ -1,6 +1,6 @@
 -- A store over two words beside another hart's loads, merged: the first load stands behind the store's claim and before its section, the
 -- others between two turns of the storing hart. The whole list of events is written by hand, and the history of steps reads exactly it.
-use Rattle.std.proofs.Common.{◌≡◌, ◌+◌, ◌*◌, ◌^◌, true, false, List, [], ◌∷◌, ◌++◌, refl, pos, negsuc}
+use Rattle.std.proofs.Common.{◌≡◌, ◌+◌, ◌*◌, ◌^◌, true, false, List, [], ◌∷◌, ◌++◌, refl, arith, pos, negsuc}
 use Rattle.rv64_decode.specs.declared.instruction.Instr.TheVariants.{Lui, Auipc, Addi, Ld, Sd, Ecall}
 use Rattle.rv64_decode.specs.Encoding.{encoding_of}
 use Rattle.rv64_priv.specs.Flush.{Full}
@@ -10,8 +10,9 @@ use Rattle.rv64_exec.specs.Finish.{done}
 use Rattle.step_laws.specs.declared.steps.Step.{Step}
 use Rattle.step_laws.specs.declared.steps.WordOp.TheVariants.{Load, Store, Add, Exchange, Or}
 use Rattle.step_laws.specs.Words.{first_ram_word, loader, first_dirty_word}
-use Rattle.step_laws.specs.Steps.{value_at, own_steps}
-use Rattle.step_laws.specs.Discipline.{IsDisciplined}
+use Rattle.step_laws.specs.Map.{name_of}
+use Rattle.step_laws.specs.Steps.{value_at, own_steps, IsConsistent}
+use Rattle.step_laws.specs.Discipline.{IsDisciplined, by_loader, boot_live, boot_ram, boot_hsm}
 use Rattle.machine_model.specs.Event.{Event, Flushes, Start as Begin}
 use Rattle.machine_model.specs.State.{memory, hart}
 use Rattle.machine_model.specs.Change.{executed as executing}
@@ -21,7 +22,8 @@ use Rattle.turn_pieces.specs.Log.{made, did, Log, steps_of, events_of}
 use Rattle.turn_pieces.proofs.Rows.{step}
 use Rattle.turn_pieces.proofs.Crossing.{crossing, fetched, executed, starting, crossed, loaded, last_turn, late_turn}
 use Rattle.run_laws.specs.Read.{own_items}
-use Rattle.run_laws.proofs.Rows.{answers_hold}
+use Rattle.step_laws.specs.Histories.{IsLed}
+use Rattle.run_laws.proofs.Consistent.{consistent_by, led_by}
 use Rattle.run_laws.proofs.CrossingKept.{last_turn_kept, late_turn_kept}
 
 abbrev all : Log
@@ -34,8 +36,17 @@ run = executed 0 ∷ fetched 0 (Auipc 11 (pos 0)) ∷ loaded 0xffffffff ∷ fetc
 abbrev stores : List Step
 stores = step loader 3 Store 1 0 ∷ step loader 29 Store 1 0 ∷ step loader first_ram_word Store (encoding_of (Lui 17 (pos 0x485000)) + 2 ^ 32 * encoding_of (Addi 17 17 (pos 845))) 0 ∷ step loader (first_ram_word + 1) Store (encoding_of (Addi 10 0 (pos 1)) + 2 ^ 32 * encoding_of (Auipc 11 (pos 0))) 0 ∷ step loader (first_ram_word + 2) Store (encoding_of (Addi 11 11 (pos 28)) + 2 ^ 32 * encoding_of (Ecall)) 0 ∷ step loader (first_ram_word + 3) Store (encoding_of (Auipc 11 (pos 0)) + 2 ^ 32 * encoding_of (Addi 11 11 (pos 40))) 0 ∷ step loader (first_ram_word + 4) Store (encoding_of (Addi 10 0 (negsuc 0)) + 2 ^ 32 * encoding_of (Sd 11 10 (pos 4))) 0 ∷ step loader (first_ram_word + 5) Store (encoding_of (Auipc 11 (pos 0)) + 2 ^ 32 * encoding_of (Addi 11 11 (pos 24))) 0 ∷ step loader (first_ram_word + 6) Store (encoding_of (Ld 10 11 (pos 0)) + 2 ^ 32 * encoding_of (Ld 12 11 (pos 0))) 0 ∷ step loader (first_ram_word + 7) Store (encoding_of (Ld 13 11 (pos 8))) 0 ∷ []
 
-answers : answers_hold (steps_of all ++ stores) ≡ true
-answers = refl
+-- each step has the answer that those before it give, and the loader's stand first
+consistent : IsConsistent crossing.layout (steps_of all ++ stores)
+consistent = consistent_by crossing.layout (steps_of all ++ stores) refl
+
+led : IsLed (steps_of all ++ stores)
+led = led_by (steps_of all ++ stores) refl
+
+-- and so does the loader, as far as its record goes
+loader_kept : IsDisciplined crossing.layout loader false (own_steps loader (steps_of all ++ stores))
+unfolding name_of
+loader_kept = (by_loader refl (boot_live refl), (by_loader refl (boot_hsm refl (omega arith) (omega arith)), (by_loader refl (boot_ram refl), (by_loader refl (boot_ram refl), (by_loader refl (boot_ram refl), (by_loader refl (boot_ram refl), (by_loader refl (boot_ram refl), (by_loader refl (boot_ram refl), (by_loader refl (boot_ram refl), (by_loader refl (boot_ram refl), tt))))))))))
 
 first_is_own : own_items 0 all ≡ last_turn
 first_is_own = refl

@@ -1,6 +1,6 @@
 -- A stale translation until another hart's fence, merged: the whole list of events is written by hand, and the history of steps reads
 -- exactly it.
-use Rattle.std.proofs.Common.{◌≡◌, ◌+◌, ◌*◌, ◌^◌, true, false, List, [], ◌∷◌, ◌++◌, refl, pos, negsuc}
+use Rattle.std.proofs.Common.{◌≡◌, ◌+◌, ◌*◌, ◌^◌, true, false, List, [], ◌∷◌, ◌++◌, refl, arith, pos, negsuc}
 use Rattle.rv64_decode.specs.declared.instruction.Instr.TheVariants.{Lui, Auipc, Addi, Slli, Or as OrRegister, Csrrw, Sd, Ecall}
 use Rattle.rv64_decode.specs.Encoding.{encoding_of}
 use Rattle.rv64_priv.specs.Flush.{Full}
@@ -11,8 +11,9 @@ use Rattle.rv64_exec.specs.Finish.{done}
 use Rattle.step_laws.specs.declared.steps.Step.{Step}
 use Rattle.step_laws.specs.declared.steps.WordOp.TheVariants.{Load, Store, Add, Exchange, Or}
 use Rattle.step_laws.specs.Words.{first_ram_word, loader, first_dirty_word, first_place}
-use Rattle.step_laws.specs.Steps.{value_at, own_steps}
-use Rattle.step_laws.specs.Discipline.{IsDisciplined}
+use Rattle.step_laws.specs.Map.{name_of}
+use Rattle.step_laws.specs.Steps.{value_at, own_steps, IsConsistent}
+use Rattle.step_laws.specs.Discipline.{IsDisciplined, by_loader, boot_live, boot_ram, boot_hsm}
 use Rattle.machine_model.specs.Event.{Event, Fetch, Flushes, Start as Begin}
 use Rattle.machine_model.specs.State.{memory, hart}
 use Rattle.machine_model.specs.Change.{executed as executing}
@@ -22,7 +23,8 @@ use Rattle.turn_pieces.proofs.Rows.{step, code}
 use Rattle.turn_pieces.proofs.FenceServed.{fencing, fetched, executed, starting, cleared, fenced, fault_turn}
 use Rattle.turn_pieces.proofs.FenceAsked.{ask_turn}
 use Rattle.run_laws.specs.Read.{own_items}
-use Rattle.run_laws.proofs.Rows.{answers_hold}
+use Rattle.step_laws.specs.Histories.{IsLed}
+use Rattle.run_laws.proofs.Consistent.{consistent_by, led_by}
 use Rattle.run_laws.proofs.FenceKept.{fault_turn_kept, ask_turn_kept}
 
 -- hart 0 starts hart 1 and makes its walk, and hart 1 clears the entry
@@ -43,8 +45,17 @@ run = Fetch 0 Walked.PageFault no_code ∷ fenced ∷ Flushes 0 Full ∷ fetched
 abbrev stores : List Step
 stores = step loader 3 Store 1 0 ∷ step loader 29 Store 1 0 ∷ step loader (first_ram_word + 2) Store 0x200000cf 0 ∷ step loader (first_ram_word + 8) Store (encoding_of (Auipc 5 (pos 0)) + 2 ^ 32 * encoding_of (Sd 5 0 (negsuc 47))) 0 ∷ step loader (first_ram_word + 9) Store (encoding_of (Addi 16 0 (pos 1)) + 2 ^ 32 * encoding_of (Lui 17 (pos 0x52464000))) 0 ∷ step loader (first_ram_word + 10) Store (encoding_of (Addi 17 17 (pos 2047)) + 2 ^ 32 * encoding_of (Addi 17 17 (pos 1604))) 0 ∷ step loader (first_ram_word + 11) Store (encoding_of (Ecall)) 0 ∷ step loader (first_ram_word + 16) Store (encoding_of (Lui 17 (pos 0x485000)) + 2 ^ 32 * encoding_of (Addi 17 17 (pos 845))) 0 ∷ step loader (first_ram_word + 17) Store (encoding_of (Addi 10 0 (pos 1)) + 2 ^ 32 * encoding_of (Auipc 11 (pos 0))) 0 ∷ step loader (first_ram_word + 18) Store (encoding_of (Addi 11 11 (negsuc 75)) + 2 ^ 32 * encoding_of (Ecall)) 0 ∷ step loader (first_ram_word + 19) Store (encoding_of (Addi 5 0 (pos 1)) + 2 ^ 32 * encoding_of (Slli 5 5 63)) 0 ∷ step loader (first_ram_word + 20) Store (encoding_of (Lui 6 (pos 0x80000)) + 2 ^ 32 * encoding_of (OrRegister 5 5 6)) 0 ∷ step loader (first_ram_word + 21) Store (encoding_of (Csrrw 0 5 0x180) + 2 ^ 32 * encoding_of (Addi 7 0 (pos 1))) 0 ∷ step loader (first_ram_word + 22) Store (encoding_of (Addi 7 0 (pos 2)) + 2 ^ 32 * encoding_of (Addi 7 0 (pos 3))) 0 ∷ []
 
-answers : answers_hold (steps_of all ++ stores) ≡ true
-answers = refl
+-- each step has the answer that those before it give, and the loader's stand first
+consistent : IsConsistent fencing.layout (steps_of all ++ stores)
+consistent = consistent_by fencing.layout (steps_of all ++ stores) refl
+
+led : IsLed (steps_of all ++ stores)
+led = led_by (steps_of all ++ stores) refl
+
+-- and so does the loader, as far as its record goes
+loader_kept : IsDisciplined fencing.layout loader false (own_steps loader (steps_of all ++ stores))
+unfolding name_of
+loader_kept = (by_loader refl (boot_live refl), (by_loader refl (boot_hsm refl (omega arith) (omega arith)), (by_loader refl (boot_ram refl), (by_loader refl (boot_ram refl), (by_loader refl (boot_ram refl), (by_loader refl (boot_ram refl), (by_loader refl (boot_ram refl), (by_loader refl (boot_ram refl), (by_loader refl (boot_ram refl), (by_loader refl (boot_ram refl), (by_loader refl (boot_ram refl), (by_loader refl (boot_ram refl), (by_loader refl (boot_ram refl), (by_loader refl (boot_ram refl), tt))))))))))))))
 
 first_is_own : own_items 0 all ≡ fault_turn
 first_is_own = refl

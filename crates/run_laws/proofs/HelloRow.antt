@@ -1,6 +1,6 @@
 -- A whole guest's run: the whole list of events is written by hand, the history of steps reads exactly it, and at its end stand what the
 -- guest printed and why it ended.
-use Rattle.std.proofs.Common.{◌≡◌, ◌+◌, ◌*◌, ◌^◌, true, List, [], ◌∷◌, ◌++◌, Some, refl, inl, arith, pos}
+use Rattle.std.proofs.Common.{◌≡◌, ◌+◌, ◌*◌, ◌^◌, true, false, List, [], ◌∷◌, ◌++◌, Some, refl, inl, arith, pos}
 use Rattle.rv64_decode.specs.declared.instruction.Instr.TheVariants.{Lui, Addi, Sb, Sw}
 use Rattle.rv64_decode.specs.Encoding.{encoding_of}
 use Rattle.rv64_priv.specs.Walk.{walk_of}
@@ -11,8 +11,8 @@ use Rattle.step_laws.specs.declared.steps.WordOp.TheVariants.{Load, Store, Add, 
 use Rattle.step_laws.specs.Words.{first_ram_word, first_console_word, loader}
 use Rattle.step_laws.specs.Map.{Stop, Cons, number_of, name_of}
 use Rattle.step_laws.specs.Fields.{pass}
-use Rattle.step_laws.specs.Discipline.{IsDisciplined, by_actor, raise, ask, lower, read_ram, touch_ipi, load_stop, set_stop, draw, print}
-use Rattle.step_laws.specs.Steps.{value_at, own_steps}
+use Rattle.step_laws.specs.Discipline.{IsDisciplined, by_loader, boot_live, boot_ram, by_actor, raise, ask, lower, read_ram, touch_ipi, load_stop, set_stop, draw, print}
+use Rattle.step_laws.specs.Steps.{value_at, own_steps, IsConsistent}
 use Rattle.machine_model.specs.declared.reason.Reason.{Reason}
 use Rattle.machine_model.specs.Event.{Event}
 use Rattle.machine_model.specs.ReasonWords.{reason_in}
@@ -22,7 +22,8 @@ use Rattle.turn_pieces.specs.Log.{made, did, Log, steps_of, events_of}
 use Rattle.turn_pieces.proofs.Rows.{step}
 use Rattle.turn_pieces.proofs.Hello.{guest, fetched, executed, printed, ended, look, inside, device, first_byte, first_printed, second_byte, second_printed, third_byte, third_printed, finisher, upper, passing, hello}
 use Rattle.run_laws.specs.Read.{own_items}
-use Rattle.run_laws.proofs.Rows.{answers_hold}
+use Rattle.step_laws.specs.Histories.{IsLed}
+use Rattle.run_laws.proofs.Consistent.{consistent_by, led_by}
 
 abbrev all : Log
 all = made (step 0 2 Load 0 1) ∷ made (step 0 8 Store 0 0) ∷ did (ended) ∷ made (step 0 2 (Exchange 0) 1 0) ∷ did (fetched 0 (Sw 5 6 (pos 0))) ∷ made (step 0 (first_ram_word + 5) Load 0 (encoding_of (Sw 5 6 (pos 0)))) ∷ made (step 0 5 Load 0 0) ∷ did (executed 0) ∷ did (fetched 0 (Addi 6 6 (pos 0x555))) ∷ made (step 0 (first_ram_word + 4) Load 0 (encoding_of (Lui 6 (pos 0x5000)) + 2 ^ 32 * encoding_of (Addi 6 6 (pos 0x555)))) ∷ made (step 0 5 Load 0 0) ∷ did (executed 0) ∷ did (fetched 0 (Lui 6 (pos 0x5000))) ∷ made (step 0 (first_ram_word + 4) Load 0 (encoding_of (Lui 6 (pos 0x5000)) + 2 ^ 32 * encoding_of (Addi 6 6 (pos 0x555)))) ∷ made (step 0 5 Load 0 0) ∷ did (executed 0) ∷ did (fetched 0 (Lui 5 (pos 0x100000))) ∷ made (step 0 (first_ram_word + 3) Load 0 (encoding_of (Sb 5 6 (pos 0)) + 2 ^ 32 * encoding_of (Lui 5 (pos 0x100000)))) ∷ made (step 0 5 Load 0 0) ∷ made (step 0 (first_console_word + 2) Store (10 + 256) 0) ∷ did (printed 10) ∷ made (step 0 4 Add 1 2) ∷ did (fetched 0 (Sb 5 6 (pos 0))) ∷ made (step 0 (first_ram_word + 3) Load 0 (encoding_of (Sb 5 6 (pos 0)) + 2 ^ 32 * encoding_of (Lui 5 (pos 0x100000)))) ∷ made (step 0 5 Load 0 0) ∷ did (executed 0) ∷ did (fetched 0 (Addi 6 0 (pos 10))) ∷ made (step 0 (first_ram_word + 2) Load 0 (encoding_of (Sb 5 6 (pos 0)) + 2 ^ 32 * encoding_of (Addi 6 0 (pos 10)))) ∷ made (step 0 5 Load 0 0) ∷ made (step 0 (first_console_word + 1) Store (75 + 256) 0) ∷ did (printed 75) ∷ made (step 0 4 Add 1 1) ∷ did (fetched 0 (Sb 5 6 (pos 0))) ∷ made (step 0 (first_ram_word + 2) Load 0 (encoding_of (Sb 5 6 (pos 0)) + 2 ^ 32 * encoding_of (Addi 6 0 (pos 10)))) ∷ made (step 0 5 Load 0 0) ∷ did (executed 0) ∷ did (fetched 0 (Addi 6 0 (pos 75))) ∷ made (step 0 (first_ram_word + 1) Load 0 (encoding_of (Sb 5 6 (pos 0)) + 2 ^ 32 * encoding_of (Addi 6 0 (pos 75)))) ∷ made (step 0 5 Load 0 0) ∷ made (step 0 first_console_word Store (79 + 256) 0) ∷ did (printed 79) ∷ made (step 0 4 Add 1 0) ∷ did (fetched 0 (Sb 5 6 (pos 0))) ∷ made (step 0 (first_ram_word + 1) Load 0 (encoding_of (Sb 5 6 (pos 0)) + 2 ^ 32 * encoding_of (Addi 6 0 (pos 75)))) ∷ made (step 0 5 Load 0 0) ∷ did (executed 0) ∷ did (fetched 0 (Addi 6 0 (pos 79))) ∷ made (step 0 first_ram_word Load 0 (encoding_of (Lui 5 (pos 0x10000000)) + 2 ^ 32 * encoding_of (Addi 6 0 (pos 79)))) ∷ made (step 0 5 Load 0 0) ∷ did (executed 0) ∷ did (fetched 0 (Lui 5 (pos 0x10000000))) ∷ made (step 0 first_ram_word Load 0 (encoding_of (Lui 5 (pos 0x10000000)) + 2 ^ 32 * encoding_of (Addi 6 0 (pos 79)))) ∷ made (step 0 5 Load 0 0) ∷ made (step 0 1 Load 0 0) ∷ made (step 0 8 Store 1 0) ∷ made (step 0 2 Load 0 0) ∷ []
@@ -34,8 +35,17 @@ run = ended ∷ fetched 0 (Sw 5 6 (pos 0)) ∷ executed 0 ∷ fetched 0 (Addi 6 
 abbrev stores : List Step
 stores = step loader 3 Store 1 0 ∷ step loader first_ram_word Store (encoding_of (Lui 5 (pos 0x10000000)) + 2 ^ 32 * encoding_of (Addi 6 0 (pos 79))) 0 ∷ step loader (first_ram_word + 1) Store (encoding_of (Sb 5 6 (pos 0)) + 2 ^ 32 * encoding_of (Addi 6 0 (pos 75))) 0 ∷ step loader (first_ram_word + 2) Store (encoding_of (Sb 5 6 (pos 0)) + 2 ^ 32 * encoding_of (Addi 6 0 (pos 10))) 0 ∷ step loader (first_ram_word + 3) Store (encoding_of (Sb 5 6 (pos 0)) + 2 ^ 32 * encoding_of (Lui 5 (pos 0x100000))) 0 ∷ step loader (first_ram_word + 4) Store (encoding_of (Lui 6 (pos 0x5000)) + 2 ^ 32 * encoding_of (Addi 6 6 (pos 0x555))) 0 ∷ step loader (first_ram_word + 5) Store (encoding_of (Sw 5 6 (pos 0))) 0 ∷ []
 
-answers : answers_hold (steps_of all ++ stores) ≡ true
-answers = refl
+-- each step has the answer that those before it give, and the loader's stand first
+consistent : IsConsistent guest.layout (steps_of all ++ stores)
+consistent = consistent_by guest.layout (steps_of all ++ stores) refl
+
+led : IsLed (steps_of all ++ stores)
+led = led_by (steps_of all ++ stores) refl
+
+-- and so does the loader, as far as its record goes
+loader_kept : IsDisciplined guest.layout loader false (own_steps loader (steps_of all ++ stores))
+unfolding name_of
+loader_kept = (by_loader refl (boot_live refl), (by_loader refl (boot_ram refl), (by_loader refl (boot_ram refl), (by_loader refl (boot_ram refl), (by_loader refl (boot_ram refl), (by_loader refl (boot_ram refl), (by_loader refl (boot_ram refl), tt)))))))
 
 log_is_own : own_items 0 all ≡ made (step 0 2 Load 0 1) ∷ hello
 log_is_own = refl

@@ -37,7 +37,7 @@ stores = step loader 3 Store 1 0 ∷ step loader 29 Store 1 0 ∷ step loader fi
     ∷ step loader (first_ram_word + 5) Store (encoding_of (Sd 11 10 (pos 4)) + 2 ^ 32 * encoding_of (Addi 16 0 (pos 1))) 0 ∷ step loader (first_ram_word + 6) Store (encoding_of (Ecall) + 2 ^ 32 * encoding_of (Ecall)) 0 ∷ []
 
 -- each step has the answer that those before it give
-abbrev pub answers_hold : List Step → Bool
+abbrev answers_hold : List Step → Bool
 answers_hold [] = true
 answers_hold (s ∷ h) = (s.answer == answer_of s.op (value_at s.word h)) && answers_hold h
 
