@@ -54,7 +54,7 @@ first_is_own = refl
 second_is_own : own_items 1 all ≡ late_turn
 second_is_own = refl
 
--- each hart keeps to the discipline: the list is a history's
+-- each hart keeps to the discipline
 first_kept : IsDisciplined crossing.layout 0 true (own_steps 0 (steps_of all ++ stores))
 first_kept = last_turn_kept
 

@@ -63,7 +63,7 @@ first_is_own = refl
 second_is_own : own_items 1 all ≡ ask_turn
 second_is_own = refl
 
--- each hart keeps to the discipline: the list is a history's
+-- each hart keeps to the discipline
 first_kept : IsDisciplined fencing.layout 0 true (own_steps 0 (steps_of all ++ stores))
 first_kept = fault_turn_kept
 

@@ -102,7 +102,7 @@ hello_kept : IsDisciplined guest.layout 0 true (steps_of hello)
 unfolding name_of
 hello_kept = (by_actor (inl (omega arith)) refl (lower), (by_actor (inl (omega arith)) refl (set_stop (pass refl)), (by_actor (inl (omega arith)) refl (read_ram (inl refl)), (by_actor (inl (omega arith)) refl (touch_ipi (inl refl)), passing_kept))))
 
--- the hart keeps to the discipline: the list is a history's
+-- the hart keeps to the discipline
 hart_kept : IsDisciplined guest.layout 0 true (own_steps 0 (steps_of all ++ stores))
 unfolding name_of
 hart_kept = (by_actor (inl (omega arith)) refl (load_stop), hello_kept)
