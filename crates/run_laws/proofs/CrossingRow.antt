@@ -43,7 +43,7 @@ consistent = consistent_by crossing.layout (steps_of all ++ stores) refl
 led : IsLed (steps_of all ++ stores)
 led = led_by (steps_of all ++ stores) refl
 
--- and so does the loader, as far as its record goes
+-- the loader keeps to the discipline, as far as its record goes
 loader_kept : IsDisciplined crossing.layout loader false (own_steps loader (steps_of all ++ stores))
 unfolding name_of
 loader_kept = (by_loader refl (boot_live refl), (by_loader refl (boot_hsm refl (omega arith) (omega arith)), (by_loader refl (boot_ram refl), (by_loader refl (boot_ram refl), (by_loader refl (boot_ram refl), (by_loader refl (boot_ram refl), (by_loader refl (boot_ram refl), (by_loader refl (boot_ram refl), (by_loader refl (boot_ram refl), (by_loader refl (boot_ram refl), tt))))))))))

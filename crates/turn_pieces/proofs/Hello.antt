@@ -221,7 +221,7 @@ hello_closed = record {
   snapshot = λ e. absurd (omega (arith, e));
 }
 
--- 1 turns, and a look at STOP
+-- one turn, and a look at STOP
 pub hello_chain : IsChain guest 0 1 (made (step 0 2 Load 0 1) ∷ hello)
 unfolding name_of
 hello_chain = looks (step 0 2 Load 0 1) (turn (none) (record { look = step 0 2 Load 0 0; looks = (refl, refl); once = refl; grows = grows_then guest 0 look passing (grows_then guest 0 look upper (grows_then guest 0 look finisher (grows_then guest 0 look third_printed (grows_then guest 0 look third_byte (grows_then guest 0 look second_printed (grows_then guest 0 look second_byte (grows_then guest 0 look first_printed (grows_then guest 0 look first_byte (grows_then guest 0 look device (grows_then guest 0 look inside (grows_then guest 0 look look (stays) inside_grows) device_grows) first_byte_grows) first_printed_grows) second_byte_grows) second_printed_grows) third_byte_grows) third_printed_grows) finisher_grows) upper_grows) passing_grows) hello_grows; closed = hello_closed })) (refl, refl)
