@@ -11,6 +11,11 @@ pub mod Rows
 pub mod Wrong
 pub mod TwoHarts
 pub mod AtLimit
+pub mod Hello
+pub mod Crossing
+pub mod FenceServed
+pub mod FenceAsked
+mod OldWalk
 mod Stale
 mod Moved
 mod Script
