@@ -1,0 +1,4 @@
+pub mod Compare
+pub mod Filled
+pub mod Kept
+pub mod Books
