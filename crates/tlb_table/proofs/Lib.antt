@@ -1,0 +1,4 @@
+pub mod Sizes
+pub mod Loads
+pub mod Stores
+pub mod Puts
