@@ -2,3 +2,4 @@ pub mod Sizes
 pub mod Loads
 pub mod Stores
 pub mod Puts
+pub mod Aside
