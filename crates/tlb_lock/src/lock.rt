@@ -51,6 +51,7 @@ pub fn unlock<P: Port>(port: &mut P, hart: u8)
     ensures freed { HasFreed hart (P.shows port.old) (P.shows port.new) }
     ensures free { held_lock (P.shows port.new).own.steps ≡ 0 }
     ensures table { (slot : ℕ) (field : TlbField) → table_word (Tlb (P.shows port.new).own.actor slot field) (P.shows port.new).own.steps ≡ table_word (Tlb (P.shows port.old).own.actor slot field) (P.shows port.old).own.steps }
+    ensures due { (slot : ℕ) (field : TlbField) → is_clear_due (P.shows port.new).own.actor slot field (P.shows port.new).own.steps ≡ is_clear_due (P.shows port.old).own.actor slot field (P.shows port.old).own.steps }
     ensures size { size_of (P.shows port.new).own.actor (P.shows port.new).own.steps ≡ size_of (P.shows port.old).own.actor (P.shows port.old).own.steps }
     ensures acting { IsActing (P.shows port.new) }
     ensures goes { GoesBy 1 IsOfTable (P.shows port.old) (P.shows port.new) }

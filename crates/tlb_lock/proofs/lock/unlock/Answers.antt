@@ -2,7 +2,7 @@ use Rattle.std.proofs.Common.{refl}
 use Rattle.step_laws.specs.declared.steps.WordOp.TheVariants.{Store}
 use Rattle.guest_ram.specs.Areas.{IsOfTable}
 use Rattle.guest_ram.proofs.Moves.{acting_adds, goes_step, lock_adds}
-use Rattle.tlb_lock.proofs.Locked.{may_free, lock_word, lock_size}
+use Rattle.tlb_lock.proofs.Locked.{may_free, lock_word, lock_size, lock_due}
 use Rattle.tlb_lock.proofs.lock.unlock.Goals as goal
 
 pub store-requires-clause-may : goal.store-requires-clause-may
@@ -22,3 +22,6 @@ returns-clause-acting g c = acting_adds _ _ _ _ _ Store _ c.store.ensures.step c
 
 pub returns-clause-goes : goal.returns-clause-goes
 returns-clause-goes g c = goes_step IsOfTable _ _ _ _ _ _ _ c.store.ensures.step c.store.ensures.allowed c.lock_word.ensures.name tt
+
+pub returns-clause-due : goal.returns-clause-due
+returns-clause-due g c = lock_due _ _ _ _ _ c.args.hart Store c.store.ensures.step c.lock_word.ensures.name
