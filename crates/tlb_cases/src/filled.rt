@@ -28,7 +28,7 @@ pub struct Probed {
 }
 
 /// Puts an entry, in a section of the lock, where that is free.
-fn put_once<P: Port>(port: &mut P, book: &mut Book, slot: u16, entry: &Entry)
+pub fn put_once<P: Port>(port: &mut P, book: &mut Book, slot: u16, entry: &Entry)
     requires with { IsWith book.old 0 (P.shows port.old) }
     requires slot { slot < book.old.size }
     requires not_dirty { entry.now.write % 4 ≢ 0 }

@@ -6,7 +6,7 @@ mod mapped;
 mod monitored;
 mod walked;
 
-pub use filled::{Probed, probes};
+pub use filled::{Probed, probes, put_once};
 pub use mapped::{Mapped, open_mapped};
 pub use monitored::{held_lock, taken_marks};
 pub use walked::{Row, rows_right};

@@ -12,7 +12,7 @@ use Rattle.guest_ram.proofs.Moves.{fold_adds, lock_adds}
 use Rattle.tlb_entry.specs.declared.books.Book.{Book}
 use Rattle.tlb_entry.specs.Books.{GoesWith}
 use Rattle.tlb_entry.specs.Kept.{used_next, used_of, was_free}
-use Rattle.tlb_table.specs.Changes.{IsAlike}
+use Rattle.tlb_table.specs.Lookups.{IsAlike}
 
 known_more : (a page : ℕ) (at : ℕ → ℕ) (h j answer : ℕ) (f : TlbField) (b : Bool) → b ≡ true → is_known_dirty_next a page at (Tlb h j f) Load 0 answer b ≡ true
 known_more a page at h j answer f b e = by (same_field f Write && (is_page page (at j) && is_clear answer))

@@ -5,10 +5,9 @@ use Rattle.step_laws.specs.declared.map.TlbField.TheVariants.{Read, Write, Code,
 use Rattle.step_laws.specs.declared.steps.WordOp.TheVariants.{Load, Store}
 use Rattle.step_laws.specs.Map.{Tlb, number_of}
 use Rattle.step_laws.specs.Marks.{is_known_dirty, is_page}
-use Rattle.step_laws.specs.Tables.{held_lock, is_clear_due, is_compare, size_of, table_word}
+use Rattle.step_laws.specs.Tables.{is_clear_due, is_compare}
 use Rattle.guest_ram.specs.Ports.{Shown, after_step, layout_of}
 use Rattle.tlb_entry.specs.declared.entries.Entry.{Entry}
-use Rattle.tlb_entry.specs.Kept.{used_of}
 
 -- a word of a slot of the own table was loaded, stored
 abbrev pub loaded : Shown → (slot : ℕ) → TlbField → (found : ℕ) → Shown
@@ -45,14 +44,3 @@ IsKnownIn address p = (page : ℕ) → page < (layout_of p).pages → is_page pa
 -- a word that wasn't to be cleared before a section of the lock ends isn't now
 abbrev pub OwesNoMore : Shown → Shown → Type 0
 OwesNoMore p q = (slot : ℕ) (field : TlbField) → is_compare field ≡ true → is_clear_due p.own.actor slot field p.own.steps ≡ false → is_clear_due q.own.actor slot field q.own.steps ≡ false
-
--- what the record says of the own table and its lock is the same
-pub record IsAlike (p q : Shown) : Type 0 where
-  pub machine : q.machine ≡ p.machine
-  pub actor : q.own.actor ≡ p.own.actor
-  pub words : (slot : ℕ) (field : TlbField) → table_word (Tlb q.own.actor slot field) q.own.steps ≡ table_word (Tlb p.own.actor slot field) p.own.steps
-  pub size : size_of q.own.actor q.own.steps ≡ size_of p.own.actor p.own.steps
-  pub used : used_of q.own.actor q.own.steps ≡ used_of p.own.actor p.own.steps
-  pub held : held_lock q.own.steps ≡ held_lock p.own.steps
-  pub due : (slot : ℕ) (field : TlbField) → is_clear_due q.own.actor slot field q.own.steps ≡ is_clear_due p.own.actor slot field p.own.steps
-  pub known : (page : ℕ) → is_known_dirty p.own.actor page p.own.steps ≡ true → is_known_dirty q.own.actor page q.own.steps ≡ true

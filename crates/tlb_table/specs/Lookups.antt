@@ -1,13 +1,16 @@
 -- Lookups of a hart's own TLB: which words were loaded, and what they say.
 use Rattle.std.specs.Prelude.{◌≡◌, ℕ, ◌/◌, ◌%◌, Bool, true, false, Option, Some, None}
 use Rattle.rv64_priv.specs.declared.state.Kind.{Kind}
+use Rattle.step_laws.specs.declared.map.TlbField.{TlbField}
 use Rattle.step_laws.specs.declared.map.TlbField.TheVariants.{Page}
 use Rattle.step_laws.specs.declared.steps.WordOp.TheVariants.{Load}
 use Rattle.step_laws.specs.Map.{Tlb}
 use Rattle.step_laws.specs.TableLaws.{IsLastField}
-use Rattle.step_laws.specs.Tables.{table_word}
+use Rattle.step_laws.specs.Marks.{is_known_dirty}
+use Rattle.step_laws.specs.Tables.{held_lock, is_clear_due, size_of, table_word}
 use Rattle.guest_ram.specs.Ports.{Shown, Made}
 use Rattle.tlb_entry.specs.declared.books.Hit.{Hit}
+use Rattle.tlb_entry.specs.Kept.{used_of}
 use Rattle.tlb_entry.specs.Compare.{field_of, hit, is_for_device, is_not_dirty}
 
 -- the main slot of an address: its page's number modulo the number of main slots
@@ -40,3 +43,14 @@ pub record HasHit (p q : Shown) (slot va : ℕ) (user : Bool) (kind : Kind) (fou
 abbrev pub HasProbed : (p q : Shown) (slot va : ℕ) (user : Bool) → Kind → Option Hit → Type 0
 HasProbed p q slot va user kind None = HasMissed p q slot va user kind
 HasProbed p q slot va user kind (Some found) = HasHit p q slot va user kind found
+
+-- A lookup leaves what the record says of the own table and its lock as it was, and no page that was known to be dirty is so no more
+pub record IsAlike (p q : Shown) : Type 0 where
+  pub machine : q.machine ≡ p.machine
+  pub actor : q.own.actor ≡ p.own.actor
+  pub words : (slot : ℕ) (field : TlbField) → table_word (Tlb q.own.actor slot field) q.own.steps ≡ table_word (Tlb p.own.actor slot field) p.own.steps
+  pub size : size_of q.own.actor q.own.steps ≡ size_of p.own.actor p.own.steps
+  pub used : used_of q.own.actor q.own.steps ≡ used_of p.own.actor p.own.steps
+  pub held : held_lock q.own.steps ≡ held_lock p.own.steps
+  pub due : (slot : ℕ) (field : TlbField) → is_clear_due q.own.actor slot field q.own.steps ≡ is_clear_due p.own.actor slot field p.own.steps
+  pub known : (page : ℕ) → is_known_dirty p.own.actor page p.own.steps ≡ true → is_known_dirty q.own.actor page q.own.steps ≡ true

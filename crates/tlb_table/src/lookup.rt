@@ -1,13 +1,12 @@
 // Lookups, which no lock can stop: what they make their steps with can only load words of the own table.
 ghost use Rattle.std.specs.Prelude.{◌≡◌, ◌<◌, is_some};
 ghost use Rattle.step_laws.specs.Fields.{IsSize};
-ghost use Rattle.step_laws.specs.Tables.{held_lock};
 ghost use Rattle.guest_ram.specs.Areas.{IsOfTable};
 ghost use Rattle.guest_ram.specs.Ports.{layout_of, IsActing, GoesBy};
 ghost use Rattle.tlb_entry.specs.Books.{GoesWith};
 ghost use Rattle.tlb_entry.specs.Compare.{field_of, hit};
 ghost use Rattle.tlb_entry.specs.Kept.{kept};
-ghost use Rattle.tlb_table.specs.Lookups.{HasProbed, slot};
+ghost use Rattle.tlb_table.specs.Lookups.{HasProbed, IsAlike, slot};
 
 use guest_ram::Look;
 use rv64_priv::Kind;
@@ -33,7 +32,7 @@ pub fn probe<L: Look>(look: &mut L, book: &Book, va: u64, user: bool, kind: Kind
     requires book { GoesWith book.now (L.shows look.old).own.actor (L.shows look.old).own.steps }
     ensures probed { HasProbed (L.shows look.old) (L.shows look.new) (slot va book.now.size) va user kind result }
     ensures kept { is_some result ≡ hit (kept (L.shows look.old).own.actor (slot va book.now.size) (field_of kind) (L.shows look.old).own.steps) va user }
-    ensures held { held_lock (L.shows look.new).own.steps ≡ held_lock (L.shows look.old).own.steps }
+    ensures alike { IsAlike (L.shows look.old) (L.shows look.new) }
     ensures book { GoesWith book.now (L.shows look.new).own.actor (L.shows look.new).own.steps }
     ensures acting { IsActing (L.shows look.new) }
     ensures goes { GoesBy 2 IsOfTable (L.shows look.old) (L.shows look.new) }

@@ -11,7 +11,8 @@ ghost use Rattle.guest_ram.specs.Ports.{layout_of, IsActing, GoesBy};
 ghost use Rattle.tlb_entry.specs.Books.{GoesWith};
 ghost use Rattle.tlb_entry.specs.Filled.{entry_word};
 ghost use Rattle.tlb_entry.specs.Kept.{counted, is_free, used_of};
-ghost use Rattle.tlb_table.specs.Changes.{HasCleared, HasFilled, HasLooked, HasPut, IsAlike, IsKnownIn, OwesNoMore};
+ghost use Rattle.tlb_table.specs.Lookups.{IsAlike};
+ghost use Rattle.tlb_table.specs.Changes.{HasCleared, HasFilled, HasLooked, HasPut, IsKnownIn, OwesNoMore};
 
 use guest_ram::{Look, Port};
 use step_laws::{TlbField, tlb_word};

@@ -15,3 +15,9 @@ returns-then-not-hits-clause-book g c = book_alike c.args.book.now _ _ (load_ali
 
 pub returns-clause-book : goal.returns-clause-book
 returns-clause-book g c = book_alike c.args.book.now _ _ (alike_then _ _ _ (load_alike _ _ _ _ _ _ _ c.look-compare.ensures.step c.tlb_word.ensures.name) (load_alike _ _ _ _ _ _ _ c.look-page.ensures.step c.tlb_word-2.ensures.name)) c.requires.book
+
+pub returns-then-not-hits-clause-alike : goal.returns-then-not-hits-clause-alike
+returns-then-not-hits-clause-alike g c = load_alike _ _ _ _ _ _ _ c.look-compare.ensures.step c.tlb_word.ensures.name
+
+pub returns-clause-alike : goal.returns-clause-alike
+returns-clause-alike g c = alike_then _ _ _ (load_alike _ _ _ _ _ _ _ c.look-compare.ensures.step c.tlb_word.ensures.name) (load_alike _ _ _ _ _ _ _ c.look-page.ensures.step c.tlb_word-2.ensures.name)
