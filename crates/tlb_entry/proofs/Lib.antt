@@ -1,1 +1,2 @@
 pub mod ValidWords
+pub mod Masked

@@ -1,5 +1,5 @@
 // Entries and their compare words.
-ghost use Rattle.std.specs.Prelude.{◌≡◌, if◌then◌else◌};
+ghost use Rattle.std.specs.Prelude.{◌≡◌, ◌≤◌, if◌then◌else◌};
 ghost use Rattle.rv64_priv.specs.Pte.{has_a_and_d};
 ghost use Rattle.rv64_priv.specs.declared.state.Kind.TheVariants as kinds;
 ghost use Rattle.tlb_entry.specs.Compare.{field_of, hit};
@@ -16,6 +16,9 @@ const NOT_DIRTY: u64 = 1 << 1;
 const DEVICE: u64 = 1 << 2;
 
 const USER: u64 = 1 << 3;
+
+/// What has to agree: the page, the mode, and that the word is valid.
+const COMPARED: u64 = 0xffff_ffff_ffff_f009;
 
 /// What a slot of a TLB holds: the compare words for loads, stores and fetches, and the address of the physical page.
 #[derive(Clone, Copy, Debug, PartialEq, Eq)]
@@ -78,6 +81,14 @@ fn word_of(pte: u64, device: bool, kind: Kind, regime: &Regime, valid: u64) -> u
     }
 }
 
+#[inline]
+fn mode_bit(user: bool) -> u64
+    ensures value { result ≡ (if user then 8 else 0) }
+    ensures small { result ≤ 8 }
+{
+    if user { USER } else { 0 }
+}
+
 /// The entry of an address whose walk gave this leaf and this physical page: valid for each kind of access that the leaf serves under the
 /// regime. In bare mode the leaf is 0xcf, which serves every kind.
 pub fn entry_of(pte: u64, va: u64, page: u64, device: bool, regime: &Regime) -> Entry
@@ -86,10 +97,9 @@ pub fn entry_of(pte: u64, va: u64, page: u64, device: bool, regime: &Regime) -> 
     ensures code { result.code ≡ word_for pte va device regime.now kinds.Fetch }
     ensures page { result.page ≡ page }
 {
-    let user = if regime.user { USER } else { 0 };
     let of_device = if device { DEVICE } else { 0 };
     let not_dirty = if device { 0 } else { NOT_DIRTY };
-    let valid = va / 4096 * 4096 + of_device + user;
+    let valid = va / 4096 * 4096 + of_device + mode_bit(regime.user);
     Entry {
         read: word_of(pte, device, Kind::Load, regime, valid),
         write: word_of(pte, device, Kind::Store, regime, valid + not_dirty),
@@ -103,5 +113,5 @@ pub fn entry_of(pte: u64, va: u64, page: u64, device: bool, regime: &Regime) -> 
 pub fn hits(compare: u64, va: u64, user: bool) -> bool
     ensures { result ≡ hit compare va user }
 {
-    compare % 2 == 0 && compare / 4096 == va / 4096 && compare / 8 % 2 == u64::from(user)
+    compare & COMPARED == va / 4096 * 4096 + mode_bit(user)
 }
