@@ -108,9 +108,9 @@ module _ (p q : Shown) (word arg answer h s k r : ℕ) (op : WordOp) (i : IsFlus
   }
 
 -- a step on a place leaves a target serving
-module _ (p q : Shown) (word arg answer t u k s : ℕ) (op : WordOp) (i : IsServing p s) (made : Adds p q word op arg answer) (e : name_of word ≡ Place t u k) where
-  pub serves_on : IsServing q s
-  serves_on = record {
+module _ (p q : Shown) (word arg answer t u k s : ℕ) (op : WordOp) (made : Adds p q word op arg answer) (e : name_of word ≡ Place t u k) where
+  pub serves_on : IsServing p s → IsServing q s
+  serves_on i = record {
     acting = acting_adds p q word arg answer op (Place t u k) made e (λ _. refl) i.acting;
     hart = subst (λ (x : Shown). x.own.actor < x.machine.layout.harts) (sym made) i.hart;
     other = λ x. i.other (x ∙ ap (λ (y : Shown). y.own.actor) made);
@@ -141,6 +141,19 @@ module _ (p q : Shown) (word arg answer t u k s : ℕ) (op : WordOp) (i : IsServ
       ∙ ap (λ (b : Bool). if b then answer_or_zero (last_load (Place p.own.actor s k) p.own.steps) ∷ acked_requests p.own.actor s p.own.steps else acked_requests p.own.actor s p.own.steps) (own_pair p.own.actor s)
       ∙ ap (λ o. answer_or_zero o ∷ acked_requests p.own.actor s p.own.steps) there
 
+-- a drain is acked at once
+module _ (p q : Shown) (word a s k r : ℕ) (made : Adds p q word Load 0 r) (e : name_of word ≡ Place a s k) (is : a ≡ p.own.actor) (n : IsNext p s k) where
+  its_own : a ≡ q.own.actor
+  its_own = is ∙ ap (λ (x : Shown). x.own.actor) (sym made)
+
+  pub may_ack_drain : r ≡ 3 → May q word Store 0
+  may_ack_drain three = let m : IsNext q s k = loads_next p q word a s k r made e is n in
+      may_ack q word s k r (e ∙ ap (λ x. Place x s k) its_own) m.acting m.other m.hart m.next m.untouched (subst IsRequestWord (sym three) drain_word) (loaded_as p q word a s k r made e is n)
+      (inl (ap request_kind three, fetched_since p q word a s k r made e is n))
+
+  pub acks_drain : (u : Shown) → Adds q u word Store 0 0 → acked_requests u.own.actor s u.own.steps ≡ r ∷ acked_requests p.own.actor s p.own.steps
+  acks_drain u acked = acks_more q u word 0 0 a s k s Store acked e r refl its_own refl (loaded_as p q word a s k r made e is n) ∙ ap (λ xs. r ∷ xs) (loads_keep p q word 0 r a s k s Load made e refl)
+
 next_of : (p : Shown) (s k : ℕ) → IsServing p s → k ≡ ack_place p.own.actor s p.own.steps → IsNext p s k
 next_of p s k i at = record { acting = i.acting; hart = i.hart; other = i.other; next = at; untouched = i.untouched }
 
@@ -150,7 +163,7 @@ module _ (p q : Shown) (word a s k r : ℕ) (made : Adds p q word Load 0 r) (e :
   n = next_of p s k i at
 
   pub served_first : IsServing q s
-  served_first = serves_on p q word 0 r a s k s Load i made e
+  served_first = serves_on p q word 0 r a s k s Load made e i
 
   pub flush_first : IsFlushing q s k r
   flush_first = record {
@@ -163,15 +176,6 @@ module _ (p q : Shown) (word a s k r : ℕ) (made : Adds p q word Load 0 r) (e :
 
   own_is : a ≡ q.own.actor
   own_is = is ∙ ap (λ (x : Shown). x.own.actor) (sym made)
-
-  -- a drain is acked at once
-  pub may_ack_drain : r ≡ 3 → May q word Store 0
-  may_ack_drain three = let m : IsNext q s k = flush_first.next in
-      may_ack q word s k r (e ∙ ap (λ x. Place x s k) own_is) m.acting m.other m.hart m.next m.untouched (subst IsRequestWord (sym three) drain_word) flush_first.loaded
-      (inl (ap request_kind three, flush_first.fetched))
-
-  pub acks_drain : (u : Shown) → Adds q u word Store 0 0 → acked_requests u.own.actor s u.own.steps ≡ r ∷ acked_requests p.own.actor s p.own.steps
-  acks_drain u acked = acks_more q u word 0 0 a s k s Store served_first acked e r refl own_is refl flush_first.loaded ∙ ap (λ xs. r ∷ xs) (loads_keep p q word 0 r a s k s Load i made e refl)
 
   module _ (lock arg : ℕ) (f : name_of lock ≡ Lock a) (arg_is : arg ≡ a + 1) where
     pub may_flush_lock : May q lock (Exchange 0) arg
@@ -236,8 +240,8 @@ module _ (p q : Shown) (word a s k r : ℕ) (made : Adds p q word Load 0 r) (e :
 
           module _ (w : Shown) (acked : Adds u w word Store 0 0) where
             pub served_last : IsServing w s
-            served_last = serves_on u w word 0 0 a s k s Store served_third acked e
+            served_last = serves_on u w word 0 0 a s k s Store acked e served_third
 
             pub acks_flush : acked_requests w.own.actor s w.own.steps ≡ r ∷ acked_requests p.own.actor s p.own.steps
-            acks_flush = acks_more u w word 0 0 a s k s Store served_third acked e r refl own_freed refl flush_third.loaded
-                ∙ ap (λ xs. r ∷ xs) (still_acked v u lock 0 0 a s Store freed f ∙ still_acked q v lock arg answer a s (Exchange 0) locked f ∙ loads_keep p q word 0 r a s k s Load i made e refl)
+            acks_flush = acks_more u w word 0 0 a s k s Store acked e r refl own_freed refl flush_third.loaded
+                ∙ ap (λ xs. r ∷ xs) (still_acked v u lock 0 0 a s Store freed f ∙ still_acked q v lock arg answer a s (Exchange 0) locked f ∙ loads_keep p q word 0 r a s k s Load made e refl)

@@ -1,5 +1,5 @@
 -- What no step apart from requests changes of a target.
-use Rattle.std.proofs.Common.{◌≡◌, ◌≢◌, ℕ, ◌<◌, Bool, true, false, List, [], ◌∷◌, ◌++◌, refl, sym, ap, subst, ◌∙◌}
+use Rattle.std.proofs.Common.{◌≡◌, ℕ, ◌<◌, Bool, true, false, List, [], ◌∷◌, ◌++◌, refl, sym, ap, subst, ◌∙◌}
 use Rattle.std.specs.Prelude.{◌⊎◌}
 use Rattle.step_laws.specs.declared.map.TlbField.{TlbField}
 use Rattle.step_laws.specs.declared.steps.Step.{Step}
@@ -8,7 +8,7 @@ use Rattle.step_laws.specs.Fields.{invalid_bit}
 use Rattle.step_laws.specs.Map.{Word, Lock, Size, Place, Tlb, name_of}
 use Rattle.step_laws.specs.Output.{has_touched}
 use Rattle.step_laws.specs.Places.{acked_requests, acked_requests_next}
-use Rattle.step_laws.specs.Tables.{held_lock, held_lock_next, is_clear_due, is_clear_due_next, is_victim, size_of, table_boot, table_next, table_word}
+use Rattle.step_laws.specs.Tables.{held_lock_next, is_clear_due, is_clear_due_next, is_victim, size_of, table_boot, table_next, table_word}
 use Rattle.guest_ram.specs.Areas.{IsApart}
 use Rattle.guest_ram.specs.Ports.{Shown, IsActing, AreAllowed, GoesBy}
 use Rattle.guest_ram.proofs.Moves.{fold_goes, actor_goes}

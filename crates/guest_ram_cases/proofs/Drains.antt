@@ -1,14 +1,11 @@
 -- The monitor's posts and loads of places, and the stages of its snapshot.
-use Rattle.std.proofs.Common.{◌≡◌, ◌≢◌, ℕ, zero, suc, ◌<◌, Bool, true, false, List, [], ◌∷◌, refl, sym, ap, subst, ◌∙◌, arith}
+use Rattle.std.proofs.Common.{◌≡◌, ◌≢◌, ℕ, zero, suc, ◌<◌, Bool, [], ◌∷◌, refl, ap, ◌∙◌, arith}
 use Rattle.std.specs.Prelude.{◌==◌, ◌&&◌, if◌then◌else◌}
-use Rattle.std.proofs.lemmas.Bool.{eq-eqb, ne_eqb}
-use Rattle.step_laws.specs.declared.words.Layout.{Layout}
-use Rattle.step_laws.specs.declared.request.Request.TheVariants.{Drain}
+use Rattle.std.proofs.lemmas.Bool.{ne_eqb}
 use Rattle.step_laws.specs.declared.steps.WordOp.{WordOp}
 use Rattle.step_laws.specs.declared.steps.WordOp.TheVariants.{Load, Store}
-use Rattle.step_laws.specs.Fields.{request_kind}
 use Rattle.step_laws.specs.Map.{Place, name_of}
-use Rattle.step_laws.specs.Marks.{Stage, swapping, draining, awaiting, stage, stage_next, last_place, last_place_next}
+use Rattle.step_laws.specs.Marks.{Stage, draining, awaiting, stage_next, last_place, last_place_next}
 use Rattle.step_laws.specs.Places.{posts, posts_next, post_place}
 use Rattle.guest_ram.specs.Ports.{Shown, Adds, May}
 use Rattle.guest_ram.proofs.MaySteps.{may_poll}

@@ -1,6 +1,6 @@
 -- Which harts run at the beginning, by what the loader stored.
-use Rattle.std.proofs.Common.{◌≡◌, ◌≢◌, ℕ, ◌<◌, ◌≤◌, Bool, true, false, true≢false, List, [], ◌∷◌, ◌++◌, refl, sym, ap, subst, ◌∙◌, arith}
-use Rattle.std.specs.Prelude.{◌==◌, ◌&&◌, nat_lt, if◌then◌else◌}
+use Rattle.std.proofs.Common.{◌≡◌, ℕ, ◌<◌, ◌≤◌, Bool, true, false, true≢false, List, [], ◌∷◌, refl, sym, ap, subst, ◌∙◌, arith}
+use Rattle.std.specs.Prelude.{◌==◌, ◌&&◌, if◌then◌else◌}
 use Rattle.std.proofs.lemmas.Bool.{lt-ltb, le-ltb, ne_eqb}
 use Rattle.step_laws.specs.declared.words.Layout.{Layout}
 use Rattle.step_laws.specs.declared.steps.Step.{Step}
@@ -9,7 +9,7 @@ use Rattle.step_laws.specs.declared.steps.WordOp.TheVariants.{Load, Store}
 use Rattle.step_laws.specs.Discipline.{IsActor, IsDisciplined, IsPermitted, LoaderMay, boot_live, boot_hsm, boot_size, boot_slot, boot_ram, load_first, load_more}
 use Rattle.step_laws.specs.Joined.{runs_after}
 use Rattle.step_laws.specs.Layout.{IsInLimits}
-use Rattle.step_laws.specs.Loader.{is_stored, is_stored_next, has_split, IsBooted}
+use Rattle.step_laws.specs.Loader.{is_stored, is_stored_next, IsBooted}
 use Rattle.step_laws.specs.Map.{Word, Hsm, Live, Size, Tlb, Zero, name_of, number_of, loader, monitor}
 use Rattle.step_laws.specs.WordValues.{value_next, word_value}
 use Rattle.step_laws.proofs.Along.{permits_loader}

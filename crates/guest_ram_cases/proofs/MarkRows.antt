@@ -1,5 +1,5 @@
 -- Records and histories in which a mark would be lost or a page invented, each refused.
-use Rattle.std.proofs.Common.{◌≡◌, ℕ, true, true≢false, List, [], ◌∷◌, sym, arith}
+use Rattle.std.proofs.Common.{true, true≢false, List, [], ◌∷◌, sym, arith}
 use Rattle.step_laws.specs.declared.steps.Step.{Step}
 use Rattle.step_laws.specs.declared.steps.WordOp.TheVariants.{Load, Store, Swap, Or}
 use Rattle.step_laws.specs.Discipline.{IsPermitted, by_loader, by_actor, write_ram}

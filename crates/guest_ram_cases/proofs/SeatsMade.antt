@@ -5,14 +5,12 @@ use Rattle.std.proofs.lemmas.Bool.{and_from, lt-ltb}
 use Rattle.step_laws.specs.declared.map.TlbField.{TlbField}
 use Rattle.step_laws.specs.Fields.{invalid_bit}
 use Rattle.step_laws.specs.Tables.{boot_entry, is_compare, is_first_slot, is_victim}
-use Rattle.step_laws.specs.declared.words.Layout.{Layout}
 use Rattle.step_laws.specs.Discipline.{IsActor}
-use Rattle.step_laws.specs.Harts.{closed}
 use Rattle.step_laws.specs.Layout.{IsInLimits}
 use Rattle.step_laws.specs.Map.{Word, monitor}
 use Rattle.step_laws.specs.Marks.{swapping}
 use Rattle.guest_ram.specs.Ports.{Machine, Shown, IsActing, GoesBy}
-use Rattle.guest_ram_cases.specs.Requests.{IsEmptyTable, IsPosting, IsServing}
+use Rattle.guest_ram_cases.specs.Requests.{IsPosting, IsServing}
 use Rattle.guest_ram_cases.specs.States.{IsAtRest}
 use Rattle.guest_ram_cases.specs.Sweeps.{HasNoPost, IsAtStage}
 use Rattle.guest_ram_cases.specs.Tours.{IsSeatOf, fresh_seat}

@@ -1,14 +1,14 @@
 -- The stages of a snapshot from hart to hart.
-use Rattle.std.proofs.Common.{◌≡◌, ◌≢◌, ℕ, suc, ◌+◌, ◌<◌, ◌≤◌, Bool, true, false, List, [], length, refl, sym, ap, subst, ◌∙◌, arith}
+use Rattle.std.proofs.Common.{◌≡◌, ℕ, suc, ◌+◌, ◌<◌, ◌≤◌, Bool, true, false, List, [], length, refl, sym, ap, subst, ◌∙◌, arith}
 use Rattle.std.specs.Prelude.{◌==◌, if◌then◌else◌}
 use Rattle.std.proofs.lemmas.Bool.{eq-eqb, ne_eqb}
 use Rattle.step_laws.specs.declared.steps.WordOp.{WordOp}
 use Rattle.step_laws.specs.Map.{Word, Place}
-use Rattle.step_laws.specs.Marks.{Stage, passing, draining, awaiting, last_place, last_place_next}
+use Rattle.step_laws.specs.Marks.{Stage, last_place, last_place_next}
 use Rattle.step_laws.specs.Places.{posts, posts_next, post_place, ring_place}
-use Rattle.guest_ram.specs.Areas.{IsOfPlaces, IsOfRam, IsOfTable}
+use Rattle.guest_ram.specs.Areas.{IsOfRam, IsOfTable}
 use Rattle.guest_ram.specs.Ports.{Machine, Shown, GoesBy}
-use Rattle.guest_ram.proofs.Moves.{fold_goes, machine_goes, actor_goes}
+use Rattle.guest_ram.proofs.Moves.{fold_goes, actor_goes}
 use Rattle.guest_ram_cases.specs.Sweeps.{IsAtStage, HasNoPost, HasPlaced}
 
 -- before this hart: at it, or behind the last

@@ -1,4 +1,4 @@
-use Rattle.std.proofs.Common.{◌≡◌, ◌+◌, ◌∙◌, ap, length, arith}
+use Rattle.std.proofs.Common.{◌+◌, ◌∙◌, ap, length, arith}
 use Rattle.guest_ram.specs.Areas.{IsOfPlaces}
 use Rattle.guest_ram.proofs.Moves.{goes_none, goes_then, goes_at_most}
 use Rattle.guest_ram_cases.proofs.Posts.{posting_on}

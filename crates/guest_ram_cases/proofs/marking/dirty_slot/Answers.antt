@@ -1,8 +1,7 @@
-use Rattle.std.proofs.Common.{◌≡◌, true, refl, sym, ap, subst, ◌∙◌}
+use Rattle.std.proofs.Common.{ap, ◌∙◌}
 use Rattle.step_laws.specs.declared.map.TlbField.TheVariants.{Page}
 use Rattle.step_laws.specs.Marks.{is_page}
 use Rattle.guest_ram.specs.Areas.{AnyWord, IsOfRam}
-use Rattle.guest_ram.specs.Ports.{Shown}
 use Rattle.guest_ram.proofs.AreaLemmas.{any_word}
 use Rattle.guest_ram.proofs.Moves.{goes_step, goes_then, goes_within}
 use Rattle.guest_ram_cases.proofs.Marks.{may_clear_slot, clear_holds, clear_paid}

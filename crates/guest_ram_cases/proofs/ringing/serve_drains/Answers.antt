@@ -12,7 +12,10 @@ returns-then-serve_drain-ne3-clause-acked g c = let ne : c.serve_drain.result â‰
 
 pub loop-served-preserved : goal.loop-served-preserved
 loop-served-preserved g c = let n = c.loop-served.served in let three : c.serve_drain.result â‰¡ 3 = omega arith in record {
-  serving = c.serve_drain.ensures.serving;
+  serving = c.serve_drain.ensures.serving c.loop-served.invariant.serving;
   acked = one_more _ _ 3 n (c.serve_drain.ensures.acked three) c.loop-served.invariant.acked;
   goes = goes_at_most (2 * n + 2) (2 * (n + 1)) IsOfPlaces _ _ (omega arith) (goes_then (2 * n) 2 IsOfPlaces _ _ _ c.loop-served.invariant.goes c.serve_drain.ensures.goes);
 }
+
+pub returns-then-serve_drain-ne3-clause-serving : goal.returns-then-serve_drain-ne3-clause-serving
+returns-then-serve_drain-ne3-clause-serving g c = c.serve_drain.ensures.serving c.loop-served.invariant.serving

@@ -1,13 +1,12 @@
-use Rattle.std.proofs.Common.{◌≡◌, ◌∙◌, [], ◌∷◌, map, refl, sym, ap}
-use Rattle.step_laws.specs.declared.steps.Record.{Record}
+use Rattle.std.proofs.Common.{◌∙◌, [], ◌∷◌, ap}
 use Rattle.step_laws.specs.Loader.{has_split}
-use Rattle.step_laws.specs.Map.{Zero, loader, monitor, number_of}
+use Rattle.step_laws.specs.Map.{Zero, monitor, number_of}
 use Rattle.step_laws.proofs.Numbered.{named_zero}
 use Rattle.guest_ram.specs.Ports.{Shown}
 use Rattle.guest_ram.specs.Shown.{machine_of, pass_shown, seat_shown}
 use Rattle.guest_ram.proofs.MaySteps.{may_split_more}
 use Rattle.guest_ram_cases.specs.Tours.{IsSplit}
-use Rattle.guest_ram_cases.proofs.Leading.{actors_joined, may_join_again, one_joined, split_same, three_back}
+use Rattle.guest_ram_cases.proofs.Leading.{may_join_again, one_joined, split_same}
 use Rattle.guest_ram_cases.proofs.seating.close_seats.Goals as goal
 
 pub join-requires-clause-may : goal.join-requires-clause-may

@@ -1,4 +1,4 @@
-use Rattle.std.proofs.Common.{◌≡◌, ◌∙◌, map, true, false, [], ◌∷◌, refl, ap, arith}
+use Rattle.std.proofs.Common.{◌∙◌, map, true, false, [], ◌∷◌, ap, arith}
 use Rattle.step_laws.specs.Map.{Zero, number_of, monitor}
 use Rattle.step_laws.proofs.Numbered.{named_zero}
 use Rattle.guest_ram.specs.Areas.{AnyWord, IsOfRam}
@@ -6,7 +6,7 @@ use Rattle.step_laws.specs.declared.words.Layout.{Layout}
 use Rattle.step_laws.specs.declared.steps.Record.{Record}
 use Rattle.step_laws.specs.Loader.{has_split}
 use Rattle.guest_ram.specs.Ports.{GoesBy, Machine, Shown}
-use Rattle.guest_ram.specs.Shown.{machine_of, pass_shown, first_shown}
+use Rattle.guest_ram.specs.Shown.{machine_of, pass_shown}
 use Rattle.guest_ram.proofs.AreaLemmas.{any_word}
 use Rattle.guest_ram.proofs.MaySteps.{may_split_first}
 use Rattle.guest_ram.proofs.Moves.{goes_then, goes_within, split_began}

@@ -1,5 +1,4 @@
-use Rattle.std.proofs.Common.{◌≡◌, ◌≢◌, refl, arith}
-use Rattle.step_laws.specs.declared.steps.WordOp.TheVariants.{Load}
+use Rattle.std.proofs.Common.{◌≡◌, ◌≢◌, arith}
 use Rattle.guest_ram.specs.Areas.{IsOfService}
 use Rattle.guest_ram.proofs.Moves.{goes_step, goes_then, goes_at_most}
 use Rattle.guest_ram_cases.proofs.Acks.{may_fetch_next, served_first, served_locked, served_last, acks_flush, may_flush_lock, may_flush_unlock, may_flush_ack}

@@ -1,4 +1,4 @@
-use Rattle.std.proofs.Common.{◌≡◌, ◌≢◌, ◌≤◌, ap, ◌∙◌, arith}
+use Rattle.std.proofs.Common.{◌≡◌, ◌≢◌, ap, ◌∙◌, arith}
 use Rattle.guest_ram.specs.Ports.{Shown}
 use Rattle.guest_ram.specs.Areas.{IsOfStates}
 use Rattle.guest_ram.proofs.Moves.{goes_step, goes_then, goes_at_most}

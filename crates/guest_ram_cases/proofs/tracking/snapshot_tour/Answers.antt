@@ -1,4 +1,4 @@
-use Rattle.std.proofs.Common.{◌≡◌, ◌≢◌, ◌<◌, ◌∙◌, false, refl, sym, ap, subst, inl, arith}
+use Rattle.std.proofs.Common.{◌≡◌, ◌<◌, ◌∙◌, false, sym, ap, subst, inl, arith}
 use Rattle.step_laws.specs.declared.words.Layout.{Layout}
 use Rattle.step_laws.specs.Layout.{IsInLimits}
 use Rattle.step_laws.specs.Places.{acked_requests}
