@@ -21,6 +21,7 @@ pub enum WalkEnd {
 }
 
 /// What one level gives: an end, or the address of the table below.
+#[derive(Clone, Copy)]
 enum Stop {
     End(WalkEnd),
     Table(u64),
