@@ -6,4 +6,6 @@ mod items;
 #[cfg(test)]
 mod lines;
 #[cfg(test)]
+mod texts;
+#[cfg(test)]
 mod words;

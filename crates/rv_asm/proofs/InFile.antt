@@ -29,7 +29,7 @@ one_in_file file pages h few passes =
     let fits : h.p_filesz ≤ h.p_memsz = ltb-false _ _ all.1 in
     let above : 2 ^ 31 ≤ h.p_paddr = leb-true _ _ all.2 in
     let below : h.p_paddr + h.p_memsz ≤ 2 ^ 31 + 4096 * pages = leb-true _ _ all.3 in
-    record { in_file = in_file; above = above; below = omega arith }
+    record { in_file = in_file; above = above; below = omega (arith, fits, below, few) }
 
 all_in_file : (file : List ℕ) (pages : ℕ) (hs : List Header) → pages ≤ 4096 → first_failed (all_place_checks (length file) pages hs) ≡ None → AreInFile file (map part_of hs)
 all_in_file file pages [] few passes = tt

@@ -8,7 +8,7 @@ use Rattle.rv64_decode.specs.declared.instruction.Instr.{Instr}
 use Rattle.rv64_decode.specs.Encoding.{Decodes}
 use Rattle.rv_asm.specs.declared.operands.Operands.{Operands}
 use Rattle.rv_asm.specs.declared.operands.Parts.{Parts}
-use Rattle.rv_asm.specs.Table.{name_of}
+use Rattle.asm_text.specs.Table.{name_of}
 use Rattle.rv_asm.specs.Parts.{parts_of}
 
 -- NUMBERS

@@ -1,5 +1,5 @@
 -- Texts that listings were added to, and parts that can be listed: what the code says of itself; no public contract has these words.
-use Rattle.std.specs.Prelude.{◌≡◌, ℕ, ◌+◌, ◌^◌, ◌≤◌, List, [], ◌∷◌, ◌++◌, length}
+use Rattle.std.specs.Prelude.{◌≡◌, ℕ, ◌+◌, ◌*◌, ◌^◌, ◌≤◌, List, [], ◌∷◌, ◌++◌, length}
 use Rattle.elf_load.specs.declared.image.Part.{Part}
 use Rattle.rv_asm.specs.Listing.{IsListed, IsListing}
 
@@ -18,7 +18,7 @@ pub record ListsParts (file : List ℕ) (parts : List Part) (old new : List ℕ)
 pub record IsInFile (file : List ℕ) (p : Part) : Type 0 where
   pub in_file : p.at + p.len ≤ length file
   pub above : 2 ^ 31 ≤ p.place
-  pub below : p.place + p.len ≤ 2 ^ 32
+  pub below : p.place + p.len ≤ 2 ^ 31 + 4096 * 4096
 
 abbrev pub AreInFile : List ℕ → List Part → Type 0
 AreInFile file [] = Unit {0}

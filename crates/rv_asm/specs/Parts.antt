@@ -2,7 +2,7 @@
 use Rattle.std.specs.Prelude.{ℕ, ℤ, ◌/◌, ◌^◌, ◌==◌, Bool, false, if◌then◌else◌, Option, Some, None}
 use Rattle.rv64_decode.specs.declared.instruction.Instr.{Instr}
 use Rattle.rv64_decode.specs.Format.{unsigned}
-use Rattle.rv_asm.specs.declared.mnemonic.Mnemonic.{Mnemonic}
+use Rattle.asm_text.specs.declared.mnemonic.Mnemonic.{Mnemonic}
 use Rattle.rv_asm.specs.declared.operands.Operands.{Operands}
 use Rattle.rv_asm.specs.declared.operands.Parts.{Parts}
 

@@ -1,5 +1,5 @@
 // What stands behind a mnemonic.
-use crate::mnemonic::Mnemonic;
+use asm_text::Mnemonic;
 
 /// The operands of an instruction, by their form. `rd`, `rs1` and `rs2` are numbers of registers, below 32.
 #[derive(Clone, Copy, Debug, PartialEq, Eq)]

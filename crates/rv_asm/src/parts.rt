@@ -3,8 +3,8 @@ ghost use Rattle.std.specs.Prelude.{◌≡◌, None, if◌then◌else◌};
 ghost use Rattle.rv_asm.specs.declared.operands.Operands.{Operands as TheOperands};
 ghost use Rattle.rv_asm.specs.Parts.{ordered, parts_of, plain, upper_bits};
 
-use crate::mnemonic::Mnemonic;
 use crate::operands::{Operands, Parts};
+use asm_text::Mnemonic;
 use rv64_decode::Instr;
 
 fn upper_bits(imm: i32) -> u32

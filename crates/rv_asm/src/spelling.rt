@@ -1,10 +1,10 @@
 // Instructions as text, in the assembler's own syntax: registers by number, no aliases.
 ghost use Rattle.std.specs.Prelude.{◌≡◌, ◌++◌, ◌≤◌, ◌<◌, ◌+◌, ◌^◌, OnOk, string_bytes, Some, None, codes};
-ghost use Rattle.rv_asm.specs.Table.{name_of};
+ghost use Rattle.asm_text.specs.Table.{name_of};
 ghost use Rattle.rv_asm.specs.Listing.{hex, hex_digit, target, operand_text, order_text, parts_text};
 
-use crate::mnemonic::name_of;
 use crate::operands::{Operands, Parts};
+use asm_text::name_of;
 use std::alloc::AllocError;
 
 fn hex_digit(digit: u32) -> char

@@ -1,4 +1,4 @@
-// Whole calls on one file, `elf`, in memory, whose reads and writes fail at chosen calls.
+// Whole calls on files in memory, whose reads and writes fail at chosen calls.
 use std::alloc::{AllocError, Global};
 use std::process::Abort;
 use tlbvm::{Status, tlbvm_still};
@@ -44,6 +44,15 @@ fn failing(alloc: Global, call: Option<u64>) -> Result<Vec<u64>, AllocError> {
     call.into_iter().collect(alloc)
 }
 
+/// A file of this name, which has no faults.
+pub(crate) fn file(alloc: Global, name: &str, bytes: Vec<u8>) -> Result<MemFile, AllocError> {
+    Ok(MemFile {
+        name: String::from_str(alloc, name)?,
+        bytes,
+        faults: 0,
+    })
+}
+
 /// Does a line, whose words stand apart by spaces, where the file of this name has these bytes.
 pub(crate) fn call(
     alloc: Global,
@@ -52,16 +61,21 @@ pub(crate) fn call(
     bytes: Vec<u8>,
     faults: Faults,
 ) -> Result<Ended, AllocError> {
+    let files = vec![in alloc; file(alloc, name, bytes)?]?;
+    call_on(alloc, line, files, faults)
+}
+
+/// Does a line on these files.
+pub(crate) fn call_on(
+    alloc: Global,
+    line: &str,
+    files: Vec<MemFile>,
+    faults: Faults,
+) -> Result<Ended, AllocError> {
     let mut words = Vec::new(alloc);
     for word in line.split_ascii_whitespace() {
         words.push(String::from_str(alloc, word)?)?;
     }
-    let file = MemFile {
-        name: String::from_str(alloc, name)?,
-        bytes,
-        faults: 0,
-    };
-    let files = vec![in alloc; file]?;
     let mut images = MemImages::new(files, failing(alloc, faults.read)?);
     let mut out = MemSink::new(Vec::new(alloc), failing(alloc, faults.out)?);
     let mut log = MemSink::new(Vec::new(alloc), Vec::new(alloc));

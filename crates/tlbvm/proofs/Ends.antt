@@ -14,18 +14,19 @@ use Rattle.ref_machine.specs.Shows.{Shows, resting}
 use Rattle.ref_machine.specs.Ran.{GoesOn, Ran}
 use Rattle.ref_machine.proofs.Runs.{first_only}
 use Rattle.tlbvm.specs.declared.status.Status.{Status}
-use Rattle.tlbvm.specs.Intake.{Task, Runs, Lists, Intake, Name, Reads, Goes, Input, plain_input, ComesTo, on_image, on_order, intake_of, plain_intake, dis_intake, most_pages}
+use Rattle.tlbvm.specs.Intake.{Task, Runs, Gives, Work, Lists, Makes, Name, Reads, Goes, Input, plain_input, ComesTo, on_image, on_order, on_text, intake_of, plain_intake, dis_intake, asm_intake, most_pages}
+use Rattle.rv_asm.specs.Assembly.{Bad, assembly_of}
 use Rattle.elf_load.specs.Loaded.{Loaded}
 use Rattle.elf_load.specs.declared.image.BadImage.{BadImage}
 use Rattle.elf_load.specs.ImageOf.{image_of}
 use Rattle.tlbvm.specs.declared.items.Item.{Item}
 use Rattle.tlbvm.specs.Items.{order_of}
-use Rattle.tlbvm.specs.Options.{Line, Plain, Dis, Asked, runs_machine}
-use Rattle.tlbvm.specs.Refused.{IsRefused, IsListed, IsStarted}
+use Rattle.tlbvm.specs.Options.{Line, Plain, Dis, Asm, Asked, runs_machine}
+use Rattle.tlbvm.specs.Refused.{IsRefused, IsMade, IsStarted}
 use Rattle.tlbvm.specs.Report.{report_from}
 use Rattle.tlbvm.specs.Status.{status_for, is_end, is_refusal}
-use Rattle.tlbvm.specs.Call.{Call, CameTo, Gets, GetsNothing, GetsPart, RunOf, IsPaced, due_out, due_log, HasEnded, IsCutShort, ListingOf, HasListed, IsListingCut}
-use Rattle.tlbvm.specs.Answers.{EndsBy, IsCut, IsAnswered, IsComplete, Answers, TookAll, IsOneRun, IsOneListing}
+use Rattle.tlbvm.specs.Call.{Call, CameTo, Gets, GetsNothing, GetsPart, RunOf, IsPaced, due_out, due_log, HasEnded, IsCutShort, TextOf, HasWritten, IsTextCut}
+use Rattle.tlbvm.specs.Answers.{EndsBy, IsCut, IsAnswered, IsComplete, Answers, TookAll, IsOneRun, IsOneText}
 use Rattle.tlbvm.proofs.Intakes.{must}
 use Rattle.tlbvm.proofs.Quiet.{plain_quiet}
 
@@ -116,15 +117,15 @@ ended_by call status reason is answered = go reason (subst (λ s. IsAnswered s c
     go (Some Reason.AllStopped) e = inl e
     go (Some Reason.Stopped) e = inl e
 
--- a listing that was written, or that was cut short
-abbrev listing_of : (call : Call) (text : List ℕ) → IsListed call.names (intake_of call.line) text → ListingOf call
-listing_of call text l = record { file = l.file; image = l.image; came = l.came; text = text; is_listing = l.is_listing }
+-- what was made and written, or cut short
+abbrev text_of : (call : Call) (text : List ℕ) → IsMade call.names (intake_of call.line) text → TextOf call
+text_of call text l = record { work = l.work; came = l.came; text = text; is_due = l.is_due }
 
-pub listed_whole : (call : Call) (text : List ℕ) → IsListed call.names (intake_of call.line) text → Gets call.out text → GetsNothing call.log → HasListed call
-listed_whole call text l out log = record { listing = listing_of call text l; out_gets = out; log_gets = log }
+pub made_whole : (call : Call) (text : List ℕ) → IsMade call.names (intake_of call.line) text → Gets call.out text → GetsNothing call.log → HasWritten call
+made_whole call text l out log = record { made = text_of call text l; out_gets = out; log_gets = log }
 
-pub listed_short : (call : Call) (text : List ℕ) → IsListed call.names (intake_of call.line) text → GetsPart call.out text → GetsNothing call.log → IsListingCut call
-listed_short call text l out log = record { listing = listing_of call text l; out_gets = out; log_gets = log }
+pub made_short : (call : Call) (text : List ℕ) → IsMade call.names (intake_of call.line) text → GetsPart call.out text → GetsNothing call.log → IsTextCut call
+made_short call text l out log = record { made = text_of call text l; out_gets = out; log_gets = log }
 
 -- THE ANSWERS
 
@@ -139,6 +140,7 @@ refused call status (inr came) = go status came.0 came.1
     go Status.TooLong is c = c
     go (Status.BadImage kind) is c = c
     go (Status.BadOrder line) is c = c
+    go (Status.BadAsm line kind) is c = c
     go Status.NoMemory is c = tt
     go Status.WriteFault is c = cc
     go Status.Done is c = cc
@@ -149,11 +151,11 @@ refused call status (inr came) = go status came.0 came.1
     go Status.AllStopped is c = cc
     go Status.Stopped is c = cc
 
--- what a call came to: want of memory, a refusal, a machine's end, a sink that failed, or a listing that was written
+-- what a call came to: want of memory, a refusal, a machine's end, a sink that failed, or what was made and written
 abbrev Origin : Status → Call → Type 0
 Origin status call =
     (status ≡ Status.NoMemory) ⊎ (CameTo (Err status) call ⊎ (((reason : Option Reason) × (status ≡ status_for reason) × HasEnded reason call) ⊎ (IsCut call
-    ⊎ ((status ≡ Status.Done) × HasListed call))))
+    ⊎ ((status ≡ Status.Done) × HasWritten call))))
 
 done_origin : (call : Call) → EndsBy (Some Reason.Pass) call → Origin Status.Done call
 done_origin call (inl e) = inr (inr (inl (Some Reason.Pass, refl, e)))
@@ -165,6 +167,7 @@ origin call Status.ReadFault came = inr (inl came)
 origin call Status.TooLong came = inr (inl came)
 origin call (Status.BadImage kind) came = inr (inl came)
 origin call (Status.BadOrder line) came = inr (inl came)
+origin call (Status.BadAsm line kind) came = inr (inl came)
 origin call Status.NoMemory cause = inl refl
 origin call Status.WriteFault cut = inr (inr (inr (inl cut)))
 origin call Status.Done e = done_origin call e
@@ -181,6 +184,7 @@ refused_by call Status.ReadFault is came = came
 refused_by call Status.TooLong is came = came
 refused_by call (Status.BadImage kind) is came = came
 refused_by call (Status.BadOrder line) is came = came
+refused_by call (Status.BadAsm line kind) is came = came
 refused_by call Status.NoMemory is cause = cc
 refused_by call Status.WriteFault is cause = cc
 refused_by call Status.Done is cause = cc
@@ -191,12 +195,12 @@ refused_by call Status.OutFull is cause = cc
 refused_by call Status.AllStopped is cause = cc
 refused_by call Status.Stopped is cause = cc
 
--- A line that runs a machine comes to no listing, and one that doesn't to no machine.
+-- A line that runs a machine makes nothing else, and one that doesn't runs no machine.
 task_no_error : (task : Task) (status : Status) → Ok task ≡ Err status → ⊥
 task_no_error task status e = cc
 
-no_same : (file : List ℕ) (image : Loaded) (input : Input) → Lists file image ≡ Runs input → ⊥
-no_same file image input e = cc
+no_same : (work : Work) (input : Input) → Gives work ≡ Runs input → ⊥
+no_same work input e = cc
 
 abbrev came_ok : Task → Result Task Status
 came_ok task = Ok task
@@ -204,44 +208,55 @@ came_ok task = Ok task
 same_ok : (s t : Task) → came_ok s ≡ came_ok t → s ≡ t
 same_ok s t e = cc
 
-order_lists_not : (names : List ℕ → Name) (order : Result (List Item) ℕ) (input : List Item → Input) (file : List ℕ) (image : Loaded)
-    → ComesTo names (on_order order (λ items. Goes (Runs (input items)))) (Ok (Lists file image)) → ⊥
-order_lists_not names (Err line) input file image e = task_no_error (Lists file image) (Status.BadOrder line) e
-order_lists_not names (Ok items) input file image e = no_same file image (input items) (same_ok (Lists file image) (Runs (input items)) e)
+order_gives_not : (names : List ℕ → Name) (order : Result (List Item) ℕ) (input : List Item → Input) (work : Work)
+    → ComesTo names (on_order order (λ items. Goes (Runs (input items)))) (Ok (Gives work)) → ⊥
+order_gives_not names (Err line) input work e = task_no_error (Gives work) (Status.BadOrder line) e
+order_gives_not names (Ok items) input work e = no_same work (input items) (same_ok (Gives work) (Runs (input items)) e)
 
-image_lists_not : (names : List ℕ → Name) (found : Result Loaded BadImage) (order : List ℕ) (harts : ℕ) (input : Loaded → List Item → Input) (file : List ℕ) (image : Loaded)
-    → ComesTo names (on_image found (λ loaded. Reads order (λ text. on_order (order_of text harts) (λ items. Goes (Runs (input loaded items)))))) (Ok (Lists file image)) → ⊥
-image_lists_not names (Err kind) order harts input file image e = task_no_error (Lists file image) (Status.BadImage kind) e
-image_lists_not names (Ok loaded) order harts input file image (inl e) = task_no_error (Lists file image) Status.ReadFault e.0
-image_lists_not names (Ok loaded) order harts input file image (inr (inl e)) = task_no_error (Lists file image) Status.TooLong e.0
-image_lists_not names (Ok loaded) order harts input file image (inr (inr e)) = order_lists_not names (order_of e.0 harts) (input loaded) file image e.2
+image_gives_not : (names : List ℕ → Name) (found : Result Loaded BadImage) (order : List ℕ) (harts : ℕ) (input : Loaded → List Item → Input) (work : Work)
+    → ComesTo names (on_image found (λ loaded. Reads order (λ text. on_order (order_of text harts) (λ items. Goes (Runs (input loaded items)))))) (Ok (Gives work)) → ⊥
+image_gives_not names (Err kind) order harts input work e = task_no_error (Gives work) (Status.BadImage kind) e
+image_gives_not names (Ok loaded) order harts input work (inl e) = task_no_error (Gives work) Status.ReadFault e.0
+image_gives_not names (Ok loaded) order harts input work (inr (inl e)) = task_no_error (Gives work) Status.TooLong e.0
+image_gives_not names (Ok loaded) order harts input work (inr (inr e)) = order_gives_not names (order_of e.0 harts) (input loaded) work e.2
 
-no_listing : (names : List ℕ → Name) (elf order : List ℕ) (asked : Asked) (file : List ℕ) (image : Loaded) → ComesTo names (plain_intake elf order asked) (Ok (Lists file image)) → ⊥
-no_listing names elf order asked file image (inl e) = task_no_error (Lists file image) Status.ReadFault e.0
-no_listing names elf order asked file image (inr (inl e)) = task_no_error (Lists file image) Status.TooLong e.0
-no_listing names elf order asked file image (inr (inr e)) =
-    image_lists_not names (image_of e.0 asked.pages) order asked.harts (λ loaded items. plain_input asked e.0 loaded items) file image e.2
+no_work : (names : List ℕ → Name) (elf order : List ℕ) (asked : Asked) (work : Work) → ComesTo names (plain_intake elf order asked) (Ok (Gives work)) → ⊥
+no_work names elf order asked work (inl e) = task_no_error (Gives work) Status.ReadFault e.0
+no_work names elf order asked work (inr (inl e)) = task_no_error (Gives work) Status.TooLong e.0
+no_work names elf order asked work (inr (inr e)) =
+    image_gives_not names (image_of e.0 asked.pages) order asked.harts (λ loaded items. plain_input asked e.0 loaded items) work e.2
 
-image_runs_not : (names : List ℕ → Name) (found : Result Loaded BadImage) (bytes : List ℕ) (input : Input) → ComesTo names (on_image found (λ loaded. Goes (Lists bytes loaded))) (Ok (Runs input)) → ⊥
+image_runs_not : (names : List ℕ → Name) (found : Result Loaded BadImage) (bytes : List ℕ) (input : Input) → ComesTo names (on_image found (λ loaded. Goes (Gives (Lists bytes loaded)))) (Ok (Runs input)) → ⊥
 image_runs_not names (Err kind) bytes input e = task_no_error (Runs input) (Status.BadImage kind) e
-image_runs_not names (Ok loaded) bytes input e = no_same bytes loaded input (sym (same_ok (Runs input) (Lists bytes loaded) e))
+image_runs_not names (Ok loaded) bytes input e = no_same (Lists bytes loaded) input (sym (same_ok (Runs input) (Gives (Lists bytes loaded)) e))
 
 no_machine : (names : List ℕ → Name) (elf : List ℕ) (input : Input) → ComesTo names (dis_intake elf) (Ok (Runs input)) → ⊥
 no_machine names elf input (inl e) = task_no_error (Runs input) Status.ReadFault e.0
 no_machine names elf input (inr (inl e)) = task_no_error (Runs input) Status.TooLong e.0
 no_machine names elf input (inr (inr e)) = image_runs_not names (image_of e.0 most_pages) e.0 input e.2
 
-runs_lists_not : (names : List ℕ → Name) (line : Line) (file : List ℕ) (image : Loaded) → IsTrue (runs_machine line) → ComesTo names (intake_of line) (Ok (Lists file image)) → ⊥
-runs_lists_not names (Plain elf order asked) file image is came = no_listing names elf order asked file image came
-runs_lists_not names (Dis elf) file image is came = cc
+text_runs_not : (names : List ℕ → Name) (found : Result (List ℕ) Bad) (input : Input) → ComesTo names (on_text found (λ file. Goes (Gives (Makes file)))) (Ok (Runs input)) → ⊥
+text_runs_not names (Err bad) input e = task_no_error (Runs input) (Status.BadAsm bad.line bad.kind) e
+text_runs_not names (Ok file) input e = no_same (Makes file) input (sym (same_ok (Runs input) (Gives (Makes file)) e))
 
-lists_runs_not : (names : List ℕ → Name) (line : Line) (input : Input) → runs_machine line ≡ false → ComesTo names (intake_of line) (Ok (Runs input)) → ⊥
-lists_runs_not names (Plain elf order asked) input is came = cc
-lists_runs_not names (Dis elf) input is came = no_machine names elf input came
+no_machine_of_text : (names : List ℕ → Name) (text : List ℕ) (input : Input) → ComesTo names (asm_intake text) (Ok (Runs input)) → ⊥
+no_machine_of_text names text input (inl e) = task_no_error (Runs input) Status.ReadFault e.0
+no_machine_of_text names text input (inr (inl e)) = task_no_error (Runs input) Status.TooLong e.0
+no_machine_of_text names text input (inr (inr e)) = text_runs_not names (assembly_of e.0) input e.2
 
--- what a machine's end or a listing came of
+runs_gives_not : (names : List ℕ → Name) (line : Line) (work : Work) → IsTrue (runs_machine line) → ComesTo names (intake_of line) (Ok (Gives work)) → ⊥
+runs_gives_not names (Plain elf order asked) work is came = no_work names elf order asked work came
+runs_gives_not names (Dis elf) work is came = cc
+runs_gives_not names (Asm text) work is came = cc
+
+gives_runs_not : (names : List ℕ → Name) (line : Line) (input : Input) → runs_machine line ≡ false → ComesTo names (intake_of line) (Ok (Runs input)) → ⊥
+gives_runs_not names (Plain elf order asked) input is came = cc
+gives_runs_not names (Dis elf) input is came = no_machine names elf input came
+gives_runs_not names (Asm text) input is came = no_machine_of_text names text input came
+
+-- what a machine's end, or what was made, came of
 abbrev Wrote : Call → Type 0
-Wrote call = (((reason : Option Reason) × HasEnded reason call) ⊎ IsCutShort call) ⊎ (HasListed call ⊎ IsListingCut call)
+Wrote call = (((reason : Option Reason) × HasEnded reason call) ⊎ IsCutShort call) ⊎ (HasWritten call ⊎ IsTextCut call)
 
 wrote : (call : Call) (status : Status) → IsTrue (is_end status) → IsAnswered status call → Wrote call
 wrote call Status.WriteFault is (inl cut) = inl (inr cut)
@@ -259,6 +274,7 @@ wrote call Status.ReadFault is cause = cc
 wrote call Status.TooLong is cause = cc
 wrote call (Status.BadImage kind) is cause = cc
 wrote call (Status.BadOrder line) is cause = cc
+wrote call (Status.BadAsm line kind) is cause = cc
 wrote call Status.NoMemory is cause = cc
 
 pub one_run : (call : Call) (status : Status) → IsTrue (is_end status) → IsAnswered status call → IsOneRun call
@@ -266,15 +282,15 @@ one_run call status is answered runs = go (wrote call status is answered)
   where
     go : Wrote call → ((reason : Option Reason) × HasEnded reason call) ⊎ IsCutShort call
     go (inl e) = e
-    go (inr (inl e)) = absurd (runs_lists_not call.names call.line e.listing.file e.listing.image runs e.listing.came)
-    go (inr (inr e)) = absurd (runs_lists_not call.names call.line e.listing.file e.listing.image runs e.listing.came)
+    go (inr (inl e)) = absurd (runs_gives_not call.names call.line e.made.work runs e.made.came)
+    go (inr (inr e)) = absurd (runs_gives_not call.names call.line e.made.work runs e.made.came)
 
-pub one_listing : (call : Call) (status : Status) → IsTrue (is_end status) → IsAnswered status call → IsOneListing call
-one_listing call status is answered lists = go (wrote call status is answered)
+pub one_text : (call : Call) (status : Status) → IsTrue (is_end status) → IsAnswered status call → IsOneText call
+one_text call status is answered lists = go (wrote call status is answered)
   where
-    go : Wrote call → HasListed call ⊎ IsListingCut call
-    go (inl (inl e)) = absurd (lists_runs_not call.names call.line e.1.ran.input lists e.1.ran.came)
-    go (inl (inr e)) = absurd (lists_runs_not call.names call.line e.ran.input lists e.ran.came)
+    go : Wrote call → HasWritten call ⊎ IsTextCut call
+    go (inl (inl e)) = absurd (gives_runs_not call.names call.line e.1.ran.input lists e.1.ran.came)
+    go (inl (inr e)) = absurd (gives_runs_not call.names call.line e.ran.input lists e.ran.came)
     go (inr e) = e
 
 -- Completeness: without faults the call came to what is due, and to nothing else.
@@ -297,6 +313,6 @@ complete call status answered faultless due is = go (origin call status answered
     go (inr (inr (inl end))) = inr (subst (λ d. Answers d status call) (same (Ok (Runs end.2.ran.input)) end.2.ran.came) (λ took. end))
     go (inr (inr (inr (inl (inl cut))))) = inr (subst (λ d. Answers d status call) (same (Ok (Runs cut.ran.input)) cut.ran.came) (λ took. absurd (cut_none call took cut)))
     go (inr (inr (inr (inl (inr cut))))) =
-        inr (subst (λ d. Answers d status call) (same (Ok (Lists cut.listing.file cut.listing.image)) cut.listing.came) (λ took. absurd (took.0 cut.out_gets.failed)))
-    go (inr (inr (inr (inr listed)))) =
-        inr (subst (λ d. Answers d status call) (same (Ok (Lists listed.1.listing.file listed.1.listing.image)) listed.1.listing.came) (λ took. listed))
+        inr (subst (λ d. Answers d status call) (same (Ok (Gives cut.made.work)) cut.made.came) (λ took. absurd (took.0 cut.out_gets.failed)))
+    go (inr (inr (inr (inr written)))) =
+        inr (subst (λ d. Answers d status call) (same (Ok (Gives written.1.made.work)) written.1.made.came) (λ took. written))

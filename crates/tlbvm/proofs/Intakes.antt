@@ -10,7 +10,8 @@ use Rattle.tlbvm.specs.declared.items.Item.{Item}
 use Rattle.tlbvm.specs.declared.status.Status.{Status}
 use Rattle.tlbvm.specs.Status.{is_refusal}
 use Rattle.tlbvm.specs.Refused.{IsUnread, IsRefused}
-use Rattle.tlbvm.specs.Intake.{Task, Name, Intake, Reads, Refuses, Goes, WereRead, ComesTo, IsFaultless, settled, on_image, on_order}
+use Rattle.tlbvm.specs.Intake.{Task, Name, Intake, Reads, Refuses, Goes, WereRead, ComesTo, IsFaultless, settled, on_image, on_order, on_text}
+use Rattle.rv_asm.specs.Assembly.{Bad}
 
 -- a count that rose since a later moment rose since an earlier one
 pub rose_since : (early late end : ℕ) → early ≤ late → Rose late end → Rose early end
@@ -65,6 +66,13 @@ order_refused names order line next is = inr (refl, subst (λ o. ComesTo names (
 pub order_goes : (names : List ℕ → Name) (order : Result (List Item) ℕ) (items : List Item) (next : List Item → Intake) (came : Result Task Status) → order ≡ Ok items → ComesTo names (next items) came
     → ComesTo names (on_order order next) came
 order_goes names order items next came is rest = subst (λ o. ComesTo names (on_order o next) came) (sym is) rest
+
+pub text_refused : (names : List ℕ → Name) (made : Result (List ℕ) Bad) (bad : Bad) (next : List ℕ → Intake) → made ≡ Err bad → IsRefused names (on_text made next) (Status.BadAsm bad.line bad.kind)
+text_refused names made bad next is = inr (refl, subst (λ m. ComesTo names (on_text m next) (Err (Status.BadAsm bad.line bad.kind))) (sym is) refl)
+
+pub text_goes : (names : List ℕ → Name) (made : Result (List ℕ) Bad) (file : List ℕ) (next : List ℕ → Intake) (came : Result Task Status) → made ≡ Ok file → ComesTo names (next file) came
+    → ComesTo names (on_text made next) came
+text_goes names made file next came is rest = subst (λ m. ComesTo names (on_text m next) came) (sym is) rest
 
 -- WHAT IT MUST COME TO
 

@@ -1,7 +1,7 @@
 -- The definition of a line computed on lines.
 use Rattle.std.proofs.Common.{◌≡◌, refl, ℕ, List, [], ◌∷◌, Option, Some, None, true, false, Bool}
 use Rattle.std.specs.Prelude.{codes}
-use Rattle.tlbvm.specs.Options.{Line, Plain, Dis, line_of, with_value}
+use Rattle.tlbvm.specs.Options.{Line, Plain, Dis, Asm, line_of, with_value}
 
 -- a line of the operands e and o
 abbrev says : (harts pages limit : ℕ) → Bool → Option Line
@@ -84,6 +84,16 @@ regs_with_value = refl
 
 unknown : line_of (codes "plain" ∷ codes "e" ∷ codes "o" ∷ codes "-r" ∷ []) ≡ None
 unknown = refl
+
+assembly : line_of (codes "asm" ∷ codes "t" ∷ []) ≡ Some (Asm (codes "t"))
+assembly = refl
+
+assembly_of_two : line_of (codes "asm" ∷ codes "a" ∷ codes "b" ∷ []) ≡ None
+assembly_of_two = refl
+
+assembly_for_harts : line_of (codes "asm" ∷ codes "--harts" ∷ codes "2" ∷ codes "t" ∷ []) ≡ None
+unfolding with_value
+assembly_for_harts = refl
 
 listing : line_of (codes "dis" ∷ codes "e" ∷ []) ≡ Some (Dis (codes "e"))
 listing = refl

@@ -4,17 +4,17 @@ use Rattle.vm_io.specs.Faults.{Rose}
 use Rattle.machine_model.specs.declared.reason.Reason.{Reason}
 use Rattle.tlbvm.specs.declared.status.Status.{Status}
 use Rattle.tlbvm.specs.Options.{runs_machine}
-use Rattle.tlbvm.specs.Intake.{Task, Runs, Lists, intake_of, IsFaultless, settled}
+use Rattle.tlbvm.specs.Intake.{Task, Runs, Gives, intake_of, IsFaultless, settled}
 use Rattle.tlbvm.specs.Status.{status_for}
-use Rattle.tlbvm.specs.Call.{Call, CameTo, HasEnded, IsCutShort, HasListed, IsListingCut}
+use Rattle.tlbvm.specs.Call.{Call, CameTo, HasEnded, IsCutShort, HasWritten, IsTextCut}
 
--- A machine ended with this first reason; or a listing was written, which is as if it passed.
+-- A machine ended with this first reason; or what was made was written, which is as if it passed.
 abbrev pub EndsBy : Option Reason → Call → Type 0
-EndsBy reason call = HasEnded reason call ⊎ ((reason ≡ Some Reason.Pass) × HasListed call)
+EndsBy reason call = HasEnded reason call ⊎ ((reason ≡ Some Reason.Pass) × HasWritten call)
 
 -- a sink failed
 abbrev pub IsCut : Call → Type 0
-IsCut call = IsCutShort call ⊎ IsListingCut call
+IsCut call = IsCutShort call ⊎ IsTextCut call
 
 -- the cause of each answer on a line
 abbrev pub IsAnswered : Status → Call → Type 0
@@ -23,6 +23,7 @@ IsAnswered Status.ReadFault call = CameTo (Err Status.ReadFault) call
 IsAnswered Status.TooLong call = CameTo (Err Status.TooLong) call
 IsAnswered (Status.BadImage kind) call = CameTo (Err (Status.BadImage kind)) call
 IsAnswered (Status.BadOrder line) call = CameTo (Err (Status.BadOrder line)) call
+IsAnswered (Status.BadAsm line kind) call = CameTo (Err (Status.BadAsm line kind)) call
 IsAnswered Status.NoMemory call = Unit {0}
 IsAnswered Status.WriteFault call = IsCut call
 IsAnswered Status.Done call = EndsBy (Some Reason.Pass) call
@@ -38,9 +39,9 @@ IsAnswered Status.Stopped call = HasEnded (Some Reason.Stopped) call
 abbrev pub IsOneRun : Call → Type 0
 IsOneRun call = IsTrue (runs_machine call.line) → ((reason : Option Reason) × HasEnded reason call) ⊎ IsCutShort call
 
--- Of the other lines, which are those of `dis`: `out` got the listing and `log` nothing, or a prefix where `out` failed.
-abbrev pub IsOneListing : Call → Type 0
-IsOneListing call = runs_machine call.line ≡ false → HasListed call ⊎ IsListingCut call
+-- Of the other lines, which are those of `dis` and `asm`: `out` got the listing, or the file, and `log` nothing; or a prefix where `out` failed.
+abbrev pub IsOneText : Call → Type 0
+IsOneText call = runs_machine call.line ≡ false → HasWritten call ⊎ IsTextCut call
 
 -- COMPLETENESS
 
@@ -48,10 +49,10 @@ IsOneListing call = runs_machine call.line ≡ false → HasListed call ⊎ IsLi
 abbrev pub TookAll : Call → Type 0
 TookAll call = (Rose call.out.before call.out.behind → ⊥) × (Rose call.log.before call.log.behind → ⊥)
 
--- The answer is what must come of the files. A machine runs to its end, and the answer is its first reason's; a listing is written.
+-- The answer is what must come of the files. A machine runs to its end, and the answer is its first reason's; a listing or a file is written.
 abbrev pub Answers : Result Task Status → Status → Call → Type 0
 Answers (Err refused) status call = status ≡ refused
-Answers (Ok (Lists file image)) status call = TookAll call → (status ≡ Status.Done) × HasListed call
+Answers (Ok (Gives work)) status call = TookAll call → (status ≡ Status.Done) × HasWritten call
 Answers (Ok (Runs input)) status call = TookAll call → (reason : Option Reason) × (status ≡ status_for reason) × HasEnded reason call
 
 -- Where no read fails and all that is read is told, the answer is that; or there was no memory.

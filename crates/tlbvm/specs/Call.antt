@@ -2,7 +2,6 @@
 use Rattle.std.specs.Prelude.{◌≡◌, ◌⊎◌, ℕ, ◌<◌, List, length, take, Option, IfSome, Result, Ok}
 use Rattle.std.specs.Io.KnownBytes.{Appends}
 use Rattle.vm_io.specs.Faults.{Rose}
-use Rattle.elf_load.specs.Loaded.{Loaded}
 use Rattle.rv_asm.specs.Listing.{IsListing}
 use Rattle.machine_model.specs.declared.reason.Reason.{Reason}
 use Rattle.machine_model.specs.Event.{Event}
@@ -13,7 +12,7 @@ use Rattle.machine_model.specs.Plain.{IsPlainRun}
 use Rattle.ref_machine.specs.Ran.{IsOnly}
 use Rattle.tlbvm.specs.declared.status.Status.{Status}
 use Rattle.tlbvm.specs.Options.{Line, line_of}
-use Rattle.tlbvm.specs.Intake.{Input, Task, Runs, Lists, Pace, InOrder, Name, name_of, intake_of, ComesTo}
+use Rattle.tlbvm.specs.Intake.{Input, Task, Runs, Gives, Work, Lists, Makes, Pace, InOrder, Name, name_of, intake_of, ComesTo}
 use Rattle.tlbvm.specs.Report.{report_of}
 
 -- A sink before and behind a call: the bytes that it took, where they are told, and how often it failed.
@@ -102,24 +101,28 @@ pub record IsCutShort (call : Call) : Type 0 where
   pub ran : RunOf call
   pub cut : (GetsPart call.out (due_out ran) × GetsNothing call.log) ⊎ (Gets call.out (due_out ran) × GetsPart call.log (due_log ran))
 
--- THE LISTING
+-- WHAT IS MADE
 
--- the listing that a call makes
-pub record ListingOf (call : Call) : Type 0 where
-  pub file : List ℕ
-  pub image : Loaded
-  pub came : CameTo (Ok (Lists file image)) call
+-- what is due of a work: the listing of an image, or a file
+abbrev pub IsDue : Work → List ℕ → Type 0
+IsDue (Lists file image) text = IsListing file image.parts text
+IsDue (Makes file) text = text ≡ file
+
+-- what a call makes
+pub record TextOf (call : Call) : Type 0 where
+  pub work : Work
+  pub came : CameTo (Ok (Gives work)) call
   pub text : List ℕ
-  pub is_listing : IsListing file image.parts text
+  pub is_due : IsDue work text
 
 -- `out` got it, and `log` nothing
-pub record HasListed (call : Call) : Type 0 where
-  pub listing : ListingOf call
-  pub out_gets : Gets call.out listing.text
+pub record HasWritten (call : Call) : Type 0 where
+  pub made : TextOf call
+  pub out_gets : Gets call.out made.text
   pub log_gets : GetsNothing call.log
 
 -- `out` failed, and `log` got nothing
-pub record IsListingCut (call : Call) : Type 0 where
-  pub listing : ListingOf call
-  pub out_gets : GetsPart call.out listing.text
+pub record IsTextCut (call : Call) : Type 0 where
+  pub made : TextOf call
+  pub out_gets : GetsPart call.out made.text
   pub log_gets : GetsNothing call.log

@@ -5,12 +5,13 @@ use Rattle.vm_io.specs.declared.read.TheConstants.{MAX_FILE}
 use Rattle.elf_load.specs.Loaded.{Loaded}
 use Rattle.elf_load.specs.declared.image.BadImage.{BadImage}
 use Rattle.elf_load.specs.ImageOf.{image_of}
+use Rattle.rv_asm.specs.Assembly.{Bad, assembly_of}
 use Rattle.step_laws.specs.declared.words.Layout.{Layout}
 use Rattle.machine_model.specs.State.{Setup}
 use Rattle.machine_model.specs.Image.{setup_of}
 use Rattle.tlbvm.specs.declared.items.Item.{Item}
 use Rattle.tlbvm.specs.declared.status.Status.{Status}
-use Rattle.tlbvm.specs.Options.{Asked, Line, Plain, Dis}
+use Rattle.tlbvm.specs.Options.{Asked, Line, Plain, Dis, Asm}
 use Rattle.tlbvm.specs.Items.{order_of}
 use Rattle.tlbvm.specs.Turns.{hart_turns, turns_of}
 
@@ -24,10 +25,15 @@ pub record Input : Type 0 where
   pub pace : Pace
   pub regs : Bool
 
--- what a line does once its files are accepted: it runs a machine, or lists the image of a file
+-- a text or file that is made of another: the listing of an image, or the file of a text
+pub data Work : Type 0 where
+  Lists : (file : List ℕ) → (image : Loaded) → Work
+  Makes : (file : List ℕ) → Work
+
+-- what a line does once its files are accepted: it runs a machine, or makes something of its file
 pub data Task : Type 0 where
   Runs : Input → Task
-  Lists : (file : List ℕ) → (image : Loaded) → Task
+  Gives : Work → Task
 
 -- A reading of files, one after another: how it goes on depends on what was read.
 pub data Intake : Type 0 where
@@ -70,11 +76,21 @@ most_pages = 4096
 
 -- `dis ELF` reads and checks the ELF file.
 abbrev pub dis_intake : (elf : List ℕ) → Intake
-dis_intake elf = Reads elf (λ file. on_image (image_of file most_pages) (λ image. Goes (Lists file image)))
+dis_intake elf = Reads elf (λ file. on_image (image_of file most_pages) (λ image. Goes (Gives (Lists file image))))
+
+-- a text without a fault gives a file
+abbrev pub on_text : Result (List ℕ) Bad → (List ℕ → Intake) → Intake
+on_text (Err bad) next = Refuses (Status.BadAsm bad.line bad.kind)
+on_text (Ok file) next = next file
+
+-- `asm TEXT` reads the text, and assembles it.
+abbrev pub asm_intake : (text : List ℕ) → Intake
+asm_intake name = Reads name (λ text. on_text (assembly_of text) (λ file. Goes (Gives (Makes file))))
 
 abbrev pub intake_of : Line → Intake
 intake_of (Plain elf order asked) = plain_intake elf order asked
 intake_of (Dis elf) = dis_intake elf
+intake_of (Asm text) = asm_intake text
 
 -- WHAT IT MAY COME TO
 

@@ -15,6 +15,7 @@ pub record Asked : Type 0 where
 pub data Line : Type 0 where
   Plain : (elf order : List ℕ) (asked : Asked) → Line
   Dis : (elf : List ℕ) → Line
+  Asm : (text : List ℕ) → Line
 
 -- what was read so far
 pub record SoFar : Type 0 where
@@ -126,17 +127,24 @@ abbrev pub dis_from : (operands : List (List ℕ)) → (no_option : Bool) → Op
 dis_from (elf ∷ []) true = Some (Dis elf)
 dis_from _ no_option = None
 
+-- `asm TEXT`, which has no options
+abbrev pub asm_from : (operands : List (List ℕ)) → (no_option : Bool) → Option Line
+asm_from (text ∷ []) true = Some (Asm text)
+asm_from _ no_option = None
+
 -- the line of a command
 abbrev pub line_from : (command : List ℕ) → SoFar → Option Line
 line_from command seen =
     if bytes_eq command (codes "plain") then plain_from seen.operands (asked_of seen) else
     if bytes_eq command (codes "dis") then dis_from seen.operands (has_no_option seen) else
+    if bytes_eq command (codes "asm") then asm_from seen.operands (has_no_option seen) else
     None
 
 -- the lines that run a machine
 abbrev pub runs_machine : Line → Bool
 runs_machine (Plain elf order asked) = true
 runs_machine (Dis elf) = false
+runs_machine (Asm text) = false
 
 -- the words of a line, of which the first is the command
 abbrev pub line_of : List (List ℕ) → Option Line

@@ -2,15 +2,15 @@
 use Rattle.std.specs.Prelude.{◌≡◌, ◌⊎◌, ℕ, List, Bool, IsTrue, Ok, Err}
 use Rattle.vm_io.specs.declared.read.ReadErr.{ReadErr}
 use Rattle.elf_load.specs.declared.image.ImageErr.{ImageErr}
-use Rattle.elf_load.specs.Loaded.{Loaded}
-use Rattle.rv_asm.specs.Listing.{IsListing}
+use Rattle.rv_asm.specs.declared.assembler.AsmErr.{AsmErr}
 use Rattle.machine_model.specs.State.{initial}
 use Rattle.ref_machine.specs.PlainState.{PlainState}
 use Rattle.ref_machine.specs.Shows.{Shows}
 use Rattle.tlbvm.specs.declared.items.OrderErr.{OrderErr}
 use Rattle.tlbvm.specs.declared.status.Status.{Status}
 use Rattle.tlbvm.specs.Status.{is_refusal}
-use Rattle.tlbvm.specs.Intake.{Name, HasFailed, IsTooLong, Intake, Input, Runs, Lists, InOrder, ComesTo}
+use Rattle.tlbvm.specs.Intake.{Name, HasFailed, IsTooLong, Intake, Input, Runs, Gives, Work, InOrder, ComesTo}
+use Rattle.tlbvm.specs.Call.{IsDue}
 
 abbrev pub status_of_read : ReadErr → Status
 status_of_read ReadErr.ReadFault = Status.ReadFault
@@ -25,6 +25,10 @@ abbrev pub status_of_order : OrderErr → Status
 status_of_order (OrderErr.Bad line) = Status.BadOrder line
 status_of_order OrderErr.NoMemory = Status.NoMemory
 
+abbrev pub status_of_text : AsmErr → Status
+status_of_text (AsmErr.Bad line kind) = Status.BadAsm line kind
+status_of_text AsmErr.NoMemory = Status.NoMemory
+
 -- why a file was not read
 abbrev pub IsUnread : Name → Status → Type 0
 IsUnread name status = (status ≡ Status.NoMemory) ⊎ (((status ≡ Status.ReadFault) × HasFailed name) ⊎ ((status ≡ Status.TooLong) × IsTooLong name))
@@ -33,12 +37,11 @@ IsUnread name status = (status ≡ Status.NoMemory) ⊎ (((status ≡ Status.Rea
 abbrev pub IsRefused : (List ℕ → Name) → Intake → Status → Type 0
 IsRefused names intake status = (status ≡ Status.NoMemory) ⊎ (IsTrue (is_refusal status) × ComesTo names intake (Err status))
 
--- a listing that was made
-pub record IsListed (names : List ℕ → Name) (intake : Intake) (text : List ℕ) : Type 0 where
-  pub file : List ℕ
-  pub image : Loaded
-  pub came : ComesTo names intake (Ok (Lists file image))
-  pub is_listing : IsListing file image.parts text
+-- a text or file that was made
+pub record IsMade (names : List ℕ → Name) (intake : Intake) (text : List ℕ) : Type 0 where
+  pub work : Work
+  pub came : ComesTo names intake (Ok (Gives work))
+  pub is_due : IsDue work text
 
 -- a machine at its first state
 pub record IsStarted (names : List ℕ → Name) (intake : Intake) (turns : List ℕ) (regs : Bool) (machine : PlainState) : Type 0 where

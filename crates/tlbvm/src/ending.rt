@@ -30,8 +30,8 @@ pub(crate) fn write_end<O: Sink, L: Sink>(
     Ok(())
 }
 
-/// Writes a listing to `out`.
-pub(crate) fn write_listing<O: Sink>(text: &[u8], out: &mut O) -> Result<(), Failed>
+/// Writes a listing or a file to `out`.
+pub(crate) fn write_made<O: Sink>(text: &[u8], out: &mut O) -> Result<(), Failed>
     ensures ok { OnOk result (Gets (written_of O.taken O.faults out.old out.new) text.now) }
     ensures err { OnErr result (GetsPart (written_of O.taken O.faults out.old out.new) text.now) }
 {

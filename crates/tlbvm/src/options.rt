@@ -2,7 +2,7 @@
 ghost use Rattle.std.specs.Prelude.{◌≡◌, true, false, None, Some, MatchOption, IfSome, map, string_bytes};
 ghost use Rattle.std.specs.Option.{option_map};
 ghost use Rattle.tlbvm.specs.Lines.{asked_as, line_as, shown, IsInLimits, IsLineInLimits};
-ghost use Rattle.tlbvm.specs.Options.{after_operands, after_words, asked_of, dis_from, has_no_option, has_value, is_dashed, is_operand, line_of, name_in, plain_from, value_in};
+ghost use Rattle.tlbvm.specs.Options.{after_operands, after_words, asked_of, asm_from, dis_from, has_no_option, has_value, is_dashed, is_operand, line_of, name_in, plain_from, value_in};
 
 mod seen;
 mod values;
@@ -30,6 +30,9 @@ pub enum Line<'a> {
     },
     Dis {
         elf: &'a str,
+    },
+    Asm {
+        text: &'a str,
     },
 }
 
@@ -146,6 +149,17 @@ fn dis_from<'a>(seen: &Seen<'a>) -> Option<Line<'a>>
     Some(Line::Dis { elf: *elf })
 }
 
+/// `asm TEXT`, which has no options.
+fn asm_from<'a>(seen: &Seen<'a>) -> Option<Line<'a>>
+    ensures says { option_map line_as result ≡ asm_from (shown seen.now).operands (has_no_option (shown seen.now)) }
+    ensures limits { IfSome result (λ line. IsLineInLimits (line_as line)) }
+{
+    match seen.operands.as_slice() {
+        [text] if has_no_option(seen) => Some(Line::Asm { text: *text }),
+        _ => None,
+    }
+}
+
 /// The words of a line, read: the command, its operands, and options at any place behind the command; `None` where they
 /// are no line. Behind `--` each word is an operand.
 pub fn read_line(words: &[String]) -> Option<Line<'_>>
@@ -159,6 +173,7 @@ pub fn read_line(words: &[String]) -> Option<Line<'_>>
     match command.as_str() {
         "plain" => plain_from(&seen),
         "dis" => dis_from(&seen),
+        "asm" => asm_from(&seen),
         _ => None,
     }
 }

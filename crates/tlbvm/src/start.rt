@@ -1,8 +1,8 @@
 // The reads and checks before the start, in their order, and the machine that they lead to.
 ghost use Rattle.std.specs.Prelude.{◌≡◌, ◌≤◌, ℕ, List, IfOk, None, IfErr};
-ghost use Rattle.tlbvm.specs.Intake.{layout_of, name_of, dis_intake, plain_intake, WereRead};
+ghost use Rattle.tlbvm.specs.Intake.{layout_of, name_of, asm_intake, dis_intake, plain_intake, WereRead};
 ghost use Rattle.tlbvm.specs.Lines.{asked_as, IsInLimits};
-ghost use Rattle.tlbvm.specs.Refused.{IsListed, IsRefused, IsStarted, IsUnread};
+ghost use Rattle.tlbvm.specs.Refused.{IsMade, IsRefused, IsStarted, IsUnread};
 ghost use Rattle.tlbvm.specs.Turns.{hart_turns, turns_of, AreThere};
 
 use crate::items::{Item, read_order};
@@ -10,7 +10,7 @@ use crate::options::Asked;
 use crate::status::Status;
 use elf_load::parse;
 use ref_machine::PlainMachine;
-use rv_asm::disassemble;
+use rv_asm::{assemble, disassemble};
 use std::alloc::Global;
 use step_laws::Layout;
 use vm_io::{Images, read_all};
@@ -69,10 +69,23 @@ pub(crate) fn listing<F: Images>(
     elf: &str,
     images: &mut F,
 ) -> Result<Vec<u8>, Status>
-    ensures ok { IfOk result (λ text. IsListed (name_of F.told F.faults images.old images.new) (dis_intake elf.now) text.items) }
+    ensures ok { IfOk result (λ text. IsMade (name_of F.told F.faults images.old images.new) (dis_intake elf.now) text.items) }
     ensures err { IfErr result (λ status. IsRefused (name_of F.told F.faults images.old images.new) (dis_intake elf.now) status) }
 {
     let file = read_file(alloc, images, elf)?;
     let image = parse(alloc, file.as_slice(), MOST_PAGES)?;
     Ok(disassemble(alloc, &image, file.as_slice())?)
+}
+
+/// Reads the text of an `asm` line, and makes its file.
+pub(crate) fn assembled<F: Images>(
+    alloc: Global,
+    text: &str,
+    images: &mut F,
+) -> Result<Vec<u8>, Status>
+    ensures ok { IfOk result (λ file. IsMade (name_of F.told F.faults images.old images.new) (asm_intake text.now) file.items) }
+    ensures err { IfErr result (λ status. IsRefused (name_of F.told F.faults images.old images.new) (asm_intake text.now) status) }
+{
+    let lines = read_file(alloc, images, text)?;
+    Ok(assemble(alloc, lines.as_slice())?)
 }

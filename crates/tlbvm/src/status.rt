@@ -7,12 +7,13 @@ use arrayvec::ArrayString;
 use elf_load::{BadImage, ImageErr};
 use itoa::Buffer;
 use ref_machine::Reason;
+use rv_asm::AsmErr;
 use vm_io::{NoMemory, ReadErr};
 
 /// How a call ended. Of the ends of a machine `Stopped` doesn't come yet: there are no scripts.
 #[derive(Clone, Copy, Debug, PartialEq, Eq)]
 pub enum Status {
-    /// The guest said that it passed, or the listing was written.
+    /// The guest said that it passed, or the listing or the file was written.
     Done,
     /// The words are no command line.
     Usage,
@@ -24,9 +25,13 @@ pub enum Status {
     BadImage(BadImage),
     /// The order is none, by its line of this number, from 1.
     BadOrder(u64),
+    /// The text gives no file, by its line of this number, from 1, and the lowest kind of that line's faults: 1 an unknown
+    /// name, 2 a wrong form, 3 a number out of range, 4 an unknown label, 5 a label that was set before, 6 `.org` backward or
+    /// an image over the limit.
+    BadAsm(u64, u8),
     /// `out` or `log` took no more.
     WriteFault,
-    /// There was no memory for the files, the machine or the listing; no turn was taken, and nothing was written.
+    /// There was no memory for the files, the machine or what is made of a file; no turn was taken, and nothing was written.
     NoMemory,
     /// The guest said that it failed, with this code.
     GuestFailed(u16),
@@ -53,6 +58,7 @@ pub fn code(status: &Status) -> u8
         Status::TooLong => 4,
         Status::BadImage(_) => 5,
         Status::BadOrder(_) => 6,
+        Status::BadAsm(_, _) => 8,
         Status::WriteFault => 9,
         Status::NoMemory => 10,
         Status::GuestFailed(_) => 11,
@@ -97,6 +103,12 @@ pub fn status_line(status: &Status) -> ArrayString<96>
         Status::BadOrder(bad) => {
             line.push_str("bad order: line ");
             line.push_str(Buffer::new().format(*bad));
+        }
+        Status::BadAsm(bad, kind) => {
+            line.push_str("bad text: line ");
+            line.push_str(Buffer::new().format(*bad));
+            line.push_str(" kind ");
+            line.push_str(Buffer::new().format(*kind));
         }
         Status::WriteFault => line.push_str("write failed"),
         Status::NoMemory => line.push_str("out of memory"),
@@ -167,6 +179,19 @@ impl From<OrderErr> for Status {
         match e {
             OrderErr::Bad { line } => Status::BadOrder(line),
             OrderErr::NoMemory => Status::NoMemory,
+        }
+    }
+}
+
+impl From<AsmErr> for Status {
+    ghost use Rattle.tlbvm.specs.Refused.{status_of_text};
+
+    ghost from_gives = { λ e s. s ≡ status_of_text e };
+
+    fn from(e: AsmErr) -> Status {
+        match e {
+            AsmErr::Bad { line, kind } => Status::BadAsm(line, kind),
+            AsmErr::NoMemory => Status::NoMemory,
         }
     }
 }

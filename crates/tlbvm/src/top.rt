@@ -1,16 +1,16 @@
 // The top call.
 ghost use Rattle.std.specs.Prelude.{◌≡◌, ◌↔◌, Option, None, Err, IsTrue, false, map, string_bytes};
 ghost use Rattle.machine_model.specs.declared.reason.Reason.{Reason as TheReason};
-ghost use Rattle.tlbvm.specs.Options.{Dis, Plain, line_of};
+ghost use Rattle.tlbvm.specs.Options.{Asm, Dis, Plain, line_of};
 ghost use Rattle.tlbvm.specs.Lines.{asked_as, line_as, IsInLimits, IsLineInLimits};
 ghost use Rattle.tlbvm.specs.Intake.{name_of};
 ghost use Rattle.tlbvm.specs.Status.{status_for, is_end, is_refusal};
 ghost use Rattle.tlbvm.specs.Call.{call_of, written_of, CameTo, GetsNothing, OnLine, Written};
-ghost use Rattle.tlbvm.specs.Answers.{EndsBy, IsAnswered, IsComplete, IsCut, IsOneListing, IsOneRun};
+ghost use Rattle.tlbvm.specs.Answers.{EndsBy, IsAnswered, IsComplete, IsCut, IsOneText, IsOneRun};
 
-use crate::ending::{write_end, write_listing};
+use crate::ending::{write_end, write_made};
 use crate::options::{Asked, Line, read_line};
-use crate::start::{listing, start};
+use crate::start::{assembled, listing, start};
 use crate::status::{Status, status_of};
 use crate::taking::take_turns;
 use std::alloc::Global;
@@ -49,11 +49,26 @@ fn dis<F: Images, O: Sink>(alloc: Global, elf: &str, images: &mut F, out: &mut O
     ensures untouched { is_end result ≡ false → out.new ≡ out.old }
 {
     match listing(alloc, elf, images) {
-        Ok(text) => match write_listing(text.as_slice(), out) {
+        Ok(text) => match write_made(text.as_slice(), out) {
             Ok(()) => Status::Done,
             Err(_) => Status::WriteFault,
         },
         Err(status) => status,
+    }
+}
+
+/// Does an `asm` line, which leaves `log` as it is.
+fn asm<F: Images, O: Sink>(alloc: Global, text: &str, images: &mut F, out: &mut O) -> Status
+    ensures answered { (log : Written) → GetsNothing log → IsAnswered result
+        (record { line = Asm text.now; names = name_of F.told F.faults images.old images.new; out = written_of O.taken O.faults out.old out.new; log = log }) }
+    ensures untouched { is_end result ≡ false → out.new ≡ out.old }
+{
+    match assembled(alloc, text, images) {
+        Ok(file) => match write_made(file.as_slice(), out) {
+            Ok(()) => Status::Done,
+            Err(_) => Status::WriteFault,
+        },
+        Err(refused) => refused,
     }
 }
 
@@ -73,6 +88,7 @@ fn run_line<F: Images, O: Sink, L: Sink>(
     match *line {
         Line::Plain { elf, order, asked } => plain(alloc, elf, order, asked, images, out, log),
         Line::Dis { elf } => dis(alloc, elf, images, out),
+        Line::Asm { text } => asm(alloc, text, images, out),
     }
 }
 
@@ -80,9 +96,10 @@ fn run_line<F: Images, O: Sink, L: Sink>(
 /// end, and writes the console's bytes to `out` and then the report to `log`.
 ///
 /// The lines that are built are `plain ELF ORDER`, with the options `--harts N`, `--pages N`, `--limit N` and `--regs`,
-/// and `dis ELF`, which writes the listing of the file's image to `out`. Checks are made in this order: the words, the
-/// read of ELF, the image, the read of ORDER, the order, the machine's or the listing's memory; the first that fails
-/// answers, and then no sink was called. Want of memory comes before the first turn only.
+/// `dis ELF`, which writes the listing of the file's image to `out`, and `asm TEXT`, which writes the ELF file of an
+/// assembler's text. Checks are made in this order: the words, the read of ELF, the image, the read of ORDER, the order,
+/// the machine's or the listing's memory; or the read of TEXT, its lines, the file's memory; the first that fails answers,
+/// and then no sink was called. Want of memory comes before the first turn only.
 pub fn tlbvm_still<F: Images, O: Sink, L: Sink>(
     alloc: Global,
     words: &[String],
@@ -96,10 +113,10 @@ pub fn tlbvm_still<F: Images, O: Sink, L: Sink>(
         (call_of F.told F.faults O.taken O.faults L.taken L.faults images.old images.new out.old out.new log.old log.new)
         (map string_bytes words.now) IsOneRun }
 
-    // A `dis` line writes the listing of the image of its file.
-    ensures listed { IsTrue (is_end result) → OnLine
+    // A `dis` line writes the listing of the image of its file, an `asm` line the file of its text.
+    ensures made { IsTrue (is_end result) → OnLine
         (call_of F.told F.faults O.taken O.faults L.taken L.faults images.old images.new out.old out.new log.old log.new)
-        (map string_bytes words.now) IsOneListing }
+        (map string_bytes words.now) IsOneText }
 
     // Before the start: no sink is called, and of words that are no line no file is read.
     ensures usage { (result ≡ Status.Usage) ↔ (line_of (map string_bytes words.now) ≡ None) }
@@ -112,7 +129,7 @@ pub fn tlbvm_still<F: Images, O: Sink, L: Sink>(
         (map string_bytes words.now) (CameTo (Err result)) }
 
     // The run's first reason, or none after the order's last turn; `out` has its output and `log` its report. `Done` comes
-    // of a listing too, which `out` has, and `log` nothing.
+    // of a listing or a file too, which `out` has, and `log` nothing.
     ensures ended { (reason : Option TheReason) → result ≡ status_for reason → OnLine
         (call_of F.told F.faults O.taken O.faults L.taken L.faults images.old images.new out.old out.new log.old log.new)
         (map string_bytes words.now) (EndsBy reason) }

@@ -4,8 +4,8 @@ use Rattle.std.specs.Prelude.{IfSome}
 use Rattle.tlbvm.specs.Options.{Line}
 use Rattle.tlbvm.specs.Lines.{line_as}
 use Rattle.tlbvm.specs.Call.{Call, call_of}
-use Rattle.tlbvm.specs.Answers.{IsComplete, IsOneListing, IsOneRun}
-use Rattle.tlbvm.proofs.Ends.{complete, one_listing, one_run}
+use Rattle.tlbvm.specs.Answers.{IsComplete, IsOneText, IsOneRun}
+use Rattle.tlbvm.proofs.Ends.{complete, one_text, one_run}
 use Rattle.tlbvm.proofs.top.tlbvm_still.Goals as goal
 
 pub returns-in-Some-clause-complete : goal.returns-in-Some-clause-complete
@@ -22,9 +22,9 @@ returns-in-Some-clause-headline g c = λ is.
     subst (λ o. IfSome o (λ l. IsOneRun (call l))) c.in-Some.ensures.says
     (one_run (call (line_as c.in-Some.line)) c.run_line.result is c.run_line.ensures.answered)
 
-pub returns-in-Some-clause-listed : goal.returns-in-Some-clause-listed
-returns-in-Some-clause-listed g c = λ is.
+pub returns-in-Some-clause-made : goal.returns-in-Some-clause-made
+returns-in-Some-clause-made g c = λ is.
     let call : Line → Call = call_of g.F.Images.told g.F.Images.faults g.O.Sink.taken g.O.Sink.faults g.L.Sink.taken g.L.Sink.faults
     c.args.images.now c.run_line.new.images c.args.out.now c.run_line.new.out c.args.log.now c.run_line.new.log in
-    subst (λ o. IfSome o (λ l. IsOneListing (call l))) c.in-Some.ensures.says
-    (one_listing (call (line_as c.in-Some.line)) c.run_line.result is c.run_line.ensures.answered)
+    subst (λ o. IfSome o (λ l. IsOneText (call l))) c.in-Some.ensures.says
+    (one_text (call (line_as c.in-Some.line)) c.run_line.result is c.run_line.ensures.answered)

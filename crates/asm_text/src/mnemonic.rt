@@ -1,6 +1,7 @@
 // Mnemonics and their names.
 ghost use Rattle.std.specs.Prelude.{◌≡◌};
-ghost use Rattle.rv_asm.specs.Table.{name_of};
+ghost use Rattle.asm_text.specs.Table.{name_of, shape_of};
+ghost use Rattle.asm_text.specs.Action.{form_of};
 
 /// A mnemonic of the assembler: one for each instruction, and two for each atomic operation, which is on 32 or on
 /// 64 bits.
@@ -106,7 +107,7 @@ pub enum Mnemonic {
 }
 
 /// All of them.
-pub(crate) static MNEMONICS: [Mnemonic; 97] = [
+pub static MNEMONICS: [Mnemonic; 97] = [
     Mnemonic::Lui,
     Mnemonic::Auipc,
     Mnemonic::Jal,
@@ -207,7 +208,7 @@ pub(crate) static MNEMONICS: [Mnemonic; 97] = [
 ];
 
 /// How a text spells it.
-pub(crate) fn name_of(mnemonic: Mnemonic) -> &'static str
+pub fn name_of(mnemonic: Mnemonic) -> &'static str
     ensures { result.now ≡ name_of mnemonic }
 {
     match mnemonic {
@@ -308,5 +309,142 @@ pub(crate) fn name_of(mnemonic: Mnemonic) -> &'static str
         Mnemonic::AmominuD => "amominu.d",
         Mnemonic::AmomaxuW => "amomaxu.w",
         Mnemonic::AmomaxuD => "amomaxu.d",
+    }
+}
+
+/// The forms of operands.
+#[derive(Clone, Copy, Debug, PartialEq, Eq)]
+pub enum Form {
+    /// None.
+    Alone,
+    /// `rd, n`: the upper 20 bits.
+    Upper,
+    /// `rd, T`.
+    Jump,
+    /// `rs1, rs2, T`.
+    Branch,
+    /// `rd, n(rs1)`.
+    Load,
+    /// `rs2, n(rs1)`.
+    Store,
+    /// `rd, rs1, n`.
+    Immediate,
+    /// `rd, rs1, n`: an amount in bits.
+    Shift,
+    /// `rd, rs1, rs2`.
+    Registers,
+    /// `rs1, rs2`.
+    Pages,
+    /// `rd, C, rs1`.
+    Csr,
+    /// `rd, C, n`: a number of five bits.
+    CsrValue,
+    /// `rd, (rs1)`.
+    Reserve,
+    /// `rd, rs2, (rs1)`.
+    Atomic,
+}
+
+/// A mnemonic with the acquire and release bits, which only an atomic operation has.
+#[derive(Clone, Copy, Debug, PartialEq, Eq)]
+pub struct Coded {
+    pub mnemonic: Mnemonic,
+    pub aq: bool,
+    pub rl: bool,
+}
+
+/// The form of its operands.
+pub fn form_of(mnemonic: Mnemonic) -> Form
+    ensures { result ≡ form_of (shape_of mnemonic) }
+{
+    match mnemonic {
+        Mnemonic::Fence
+        | Mnemonic::Fencei
+        | Mnemonic::Ecall
+        | Mnemonic::Ebreak
+        | Mnemonic::Sret
+        | Mnemonic::Wfi => Form::Alone,
+        Mnemonic::Lui | Mnemonic::Auipc => Form::Upper,
+        Mnemonic::Jal => Form::Jump,
+        Mnemonic::Beq
+        | Mnemonic::Bne
+        | Mnemonic::Blt
+        | Mnemonic::Bge
+        | Mnemonic::Bltu
+        | Mnemonic::Bgeu => Form::Branch,
+        Mnemonic::Jalr
+        | Mnemonic::Lb
+        | Mnemonic::Lh
+        | Mnemonic::Lw
+        | Mnemonic::Ld
+        | Mnemonic::Lbu
+        | Mnemonic::Lhu
+        | Mnemonic::Lwu => Form::Load,
+        Mnemonic::Sb | Mnemonic::Sh | Mnemonic::Sw | Mnemonic::Sd => Form::Store,
+        Mnemonic::Addi
+        | Mnemonic::Slti
+        | Mnemonic::Sltiu
+        | Mnemonic::Xori
+        | Mnemonic::Ori
+        | Mnemonic::Andi
+        | Mnemonic::Addiw => Form::Immediate,
+        Mnemonic::Slli
+        | Mnemonic::Srli
+        | Mnemonic::Srai
+        | Mnemonic::Slliw
+        | Mnemonic::Srliw
+        | Mnemonic::Sraiw => Form::Shift,
+        Mnemonic::Sfencevma => Form::Pages,
+        Mnemonic::Csrrw | Mnemonic::Csrrs | Mnemonic::Csrrc => Form::Csr,
+        Mnemonic::Csrrwi | Mnemonic::Csrrsi | Mnemonic::Csrrci => Form::CsrValue,
+        Mnemonic::LrW | Mnemonic::LrD => Form::Reserve,
+        Mnemonic::Add
+        | Mnemonic::Sub
+        | Mnemonic::Sll
+        | Mnemonic::Slt
+        | Mnemonic::Sltu
+        | Mnemonic::Xor
+        | Mnemonic::Srl
+        | Mnemonic::Sra
+        | Mnemonic::Or
+        | Mnemonic::And
+        | Mnemonic::Addw
+        | Mnemonic::Subw
+        | Mnemonic::Sllw
+        | Mnemonic::Srlw
+        | Mnemonic::Sraw => Form::Registers,
+        Mnemonic::Mul
+        | Mnemonic::Mulh
+        | Mnemonic::Mulhsu
+        | Mnemonic::Mulhu
+        | Mnemonic::Div
+        | Mnemonic::Divu
+        | Mnemonic::Rem
+        | Mnemonic::Remu
+        | Mnemonic::Mulw
+        | Mnemonic::Divw
+        | Mnemonic::Divuw
+        | Mnemonic::Remw
+        | Mnemonic::Remuw => Form::Registers,
+        Mnemonic::ScW
+        | Mnemonic::ScD
+        | Mnemonic::AmoswapW
+        | Mnemonic::AmoswapD
+        | Mnemonic::AmoaddW
+        | Mnemonic::AmoaddD
+        | Mnemonic::AmoxorW
+        | Mnemonic::AmoxorD
+        | Mnemonic::AmoandW
+        | Mnemonic::AmoandD
+        | Mnemonic::AmoorW
+        | Mnemonic::AmoorD
+        | Mnemonic::AmominW
+        | Mnemonic::AmominD
+        | Mnemonic::AmomaxW
+        | Mnemonic::AmomaxD
+        | Mnemonic::AmominuW
+        | Mnemonic::AmominuD
+        | Mnemonic::AmomaxuW
+        | Mnemonic::AmomaxuD => Form::Atomic,
     }
 }

@@ -3,7 +3,7 @@
 -- Architecture, "RISC-V Privileged Instruction Set Listings".
 use Rattle.std.specs.Prelude.{ℕ, ℤ, Bool, true, false, List, codes}
 use Rattle.rv64_decode.specs.declared.instruction.Instr.{Instr}
-use Rattle.rv_asm.specs.declared.mnemonic.Mnemonic.{Mnemonic}
+use Rattle.asm_text.specs.declared.mnemonic.Mnemonic.{Mnemonic}
 
 -- The forms of operands, each with how its instruction is made of them. `n` is a number, `T` a target: an instruction
 -- has its distance; `C` is a CSR.

@@ -1,0 +1,12 @@
+mod Lists
+mod Pieces
+mod Numbers
+mod Registers
+mod Names
+mod Lines
+mod Forms
+mod Targets
+mod Instructions
+mod Slices
+mod Listings
+mod Law

@@ -1,0 +1,4 @@
+use Rattle.rv_asm.proofs.bytes.+push_bytes.Given as goal
+
+abbrev pub decreases-push_bytes : goal.decreases-push_bytes
+decreases-push_bytes l = l.count
