@@ -1,16 +1,19 @@
 -- What steps on places and KICK do to the rings that a record shows.
-use Rattle.std.proofs.Common.{◌≡◌, ◌≢◌, ℕ, ◌+◌, ◌%◌, ◌<◌, Bool, true, false, List, [], ◌∷◌, length, refl, sym, ap, subst, ◌∙◌, arith, ⊎_elim}
+use Rattle.std.proofs.Common.{◌≡◌, ◌≢◌, ℕ, ◌+◌, ◌%◌, ◌<◌, Bool, true, false, List, [], ◌∷◌, ◌++◌, length, refl, sym, ap, subst, ◌∙◌, arith, ⊎_elim}
 use Rattle.std.specs.Prelude.{◌==◌, ◌&&◌, if◌then◌else◌}
 use Rattle.std.proofs.lemmas.Bool.{eq-eqb, ne_eqb, cases_eq}
 use Rattle.std.proofs.lemmas.List.{get_or-set_same, get_or-set_other}
+use Rattle.step_laws.specs.declared.request.Request.{Request}
+use Rattle.step_laws.specs.declared.steps.Step.{Step}
 use Rattle.step_laws.specs.declared.steps.WordOp.{WordOp}
 use Rattle.step_laws.specs.declared.steps.WordOp.TheVariants.{Load, Store}
 use Rattle.step_laws.specs.Map.{Word, Kick, Place, name_of}
 use Rattle.step_laws.specs.Places.{acked_requests, acked_requests_next, answer_or_zero, last_load, posts, posts_next}
-use Rattle.guest_ram.specs.Ports.{Shown, Adds, Made, May}
-use Rattle.guest_ram.proofs.Moves.{fold_adds}
+use Rattle.guest_ram.specs.Ports.{Shown, Adds, Made, May, AreAllowed, GoesBy}
+use Rattle.guest_ram.proofs.Moves.{fold_adds, fold_goes}
 use Rattle.work_queue.specs.declared.rings.Sent.{Sent}
 use Rattle.work_queue.specs.declared.rings.Served.{Served}
+use Rattle.work_queue.specs.Posts.{HasPosted}
 use Rattle.work_queue.specs.Rings.{IsSentBy, IsServedBy, next_post, next_ack, sent_on, served_on}
 
 -- a step on a place whose source or target is the actor, by its number as the body has it
@@ -83,6 +86,12 @@ module _ (p q : Shown) (t k arg : ℕ) (m : Made p q (Place t p.own.actor k) Sto
   served_posts served ne before s l = before s l ∙ ap ring_of (sym (acks_made p q (Place t p.own.actor k) Store arg 0 m s
       ∙ ap (λ (b : Bool). if b && (s == p.own.actor) then answer_or_zero (last_load (Place t p.own.actor k) p.own.steps) ∷ acked_requests p.own.actor s p.own.steps else acked_requests p.own.actor s p.own.steps) (ne_eqb p.own.actor t (λ e. ne (sym e)))))
 
+-- a post as a whole
+pub posted_more : (request : Request) (t k : ℕ) (p q : Shown) (h : HasPosted request t k p q) → posts t q.own.actor q.own.steps ≡ h.word ∷ posts t p.own.actor p.own.steps
+posted_more request t k p q h = posts_made h.stored q (Kick t) Store 1 0 h.kicks t
+    ∙ posted_here h.found h.stored t k h.word (subst (λ a. Made h.found h.stored (Place t a k) Store h.word 0) (sym (actor_made p h.found (Place t p.own.actor k) Load 0 0 h.finds)) h.stores)
+    ∙ ap (λ xs. h.word ∷ xs) (posts_made p h.found (Place t p.own.actor k) Load 0 0 h.finds t)
+
 -- an ack of a source moves that ring on, and no other
 module _ (p q : Shown) (s k : ℕ) (m : Made p q (Place p.own.actor s k) Store 0 0) where
   abbrev acked : ℕ
@@ -115,3 +124,32 @@ module _ (p q : Shown) (s k : ℕ) (m : Made p q (Place p.own.actor s k) Store 0
 
   pub sent_acks : (sent : Sent) → s ≢ p.own.actor → IsSentBy sent p → IsSentBy sent q
   sent_acks sent ne before u l = before u l ∙ ap ring_of (sym (posts_made p q (Place p.own.actor s k) Store 0 0 m u ∙ unposted (u == p.own.actor) u (λ e. ne (sym e))))
+
+-- every word but the places
+abbrev pub IsNoPlace : Word → Type 0
+IsNoPlace (Place t s k) = ⊥
+IsNoPlace _ = Unit {0}
+
+posts_aside : (t a : ℕ) (w : Word) (op : WordOp) (arg answer : ℕ) (xs : List ℕ) → IsNoPlace w → posts_next t a w op arg answer xs ≡ xs
+posts_aside t a (Place u v k) op arg answer xs off = absurd off
+posts_aside t a w op arg answer xs off = refl
+
+acks_aside : (t s : ℕ) (w : Word) (op : WordOp) (r : List Step) (xs : List ℕ) → IsNoPlace w → acked_requests_next t s w op r xs ≡ xs
+acks_aside t s (Place u v k) op r xs off = absurd off
+acks_aside t s w op r xs off = refl
+
+acks_behind : (A : Word → Type 0) (p : Shown) (t s : ℕ) (added r : List Step) → ((w : Word) → A w → IsNoPlace w) → AreAllowed A p added → acked_requests t s (added ++ r) ≡ acked_requests t s r
+acks_behind A p t s [] r aside all = refl
+acks_behind A p t s (x ∷ added) r aside all = acks_aside t s (name_of x.word) x.op (added ++ r) (acked_requests t s (added ++ r)) (aside (name_of x.word) all.0.0) ∙ acks_behind A p t s added r aside all.1
+
+-- a call that is on no place leaves both
+module _ (n : ℕ) (A : Word → Type 0) (p q : Shown) (aside : (w : Word) → A w → IsNoPlace w) (goes : GoesBy n A p q) where
+  same : q.own.actor ≡ p.own.actor
+  same = ap (λ (x : Shown). x.own.actor) goes.grown
+
+  pub sent_goes : (sent : Sent) → IsSentBy sent p → IsSentBy sent q
+  sent_goes sent before u l = before u l ∙ ap ring_of (sym (ap (λ a. posts u a q.own.steps) same
+      ∙ fold_goes (posts_next u p.own.actor) [] n A p q (λ w op arg answer xs t. posts_aside u p.own.actor w op arg answer xs (aside w t)) goes))
+
+  pub served_goes : (served : Served) → IsServedBy served p → IsServedBy served q
+  served_goes served before u l = before u l ∙ ap ring_of (sym (ap (λ (x : Shown). acked_requests x.own.actor u x.own.steps) goes.grown ∙ acks_behind A p p.own.actor u goes.added p.own.steps aside goes.allowed))
