@@ -1,0 +1,4 @@
+pub mod Callings
+pub mod Looks
+pub mod Pairs
+pub mod Passes

@@ -1,0 +1,4 @@
+pub mod Asked
+pub mod Fenced
+pub mod Owns
+pub mod Turned

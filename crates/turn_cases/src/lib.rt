@@ -1,0 +1,11 @@
+//! Sections and requests of several actors, by passes of one table.
+#![tactic(auto)]
+
+mod requests;
+mod sections;
+
+pub use requests::{Asked, ask_tour};
+pub use sections::{Claims, section_tour};
+
+#[cfg(test)]
+mod tests;
