@@ -34,7 +34,7 @@ pub follows : (p q : Shown) (b b' : Book) (r : Regime) (kind : Kind) (va : ℕ) 
     → ((items : List Item) (fills : List Fill) → GoesWithFills p b r items fills → AnswersAllowed p q b' r va kind t items fills) → ArmsFor kind q t → IsBeside b' q → GoesBy 15 IsOfFill p q
     → Follows p q b b' r kind va t
 follows p q b b' r kind va t k fills made allowed arms beside goes = record {
-  translates = record { made = made; allowed = allowed; goes = goes };
+  translates = record { made = made; allowed = allowed; goes = goes; beside = beside };
   goes_on = on_translation p q b b' r kind va t allowed;
   placed = all_placed p q b b' r kind va t allowed (ap (λ (m : Machine). m.layout) (machine_goes 15 IsOfFill p q goes)) fills;
   arms = arms;

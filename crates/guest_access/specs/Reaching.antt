@@ -42,11 +42,12 @@ pub record GoesFurther (p q : Shown) (b' : Book) (r : Regime) (items : List Item
 abbrev pub GoesOn : (p q : Shown) (b b' : Book) → Regime → Type 0
 GoesOn p q b b' r = (items : List Item) (fills : List Fill) → GoesWithFills p b r items fills → GoesFurther p q b' r items fills
 
--- a page was translated: by these steps, and allowed by whatever fills the book went with
+-- a page was translated: by these steps, and allowed by whatever fills the book went with; the hart is beside its table behind them
 pub record Translates (p q : Shown) (b b' : Book) (r : Regime) (kind : Kind) (va : ℕ) (t : Translated) : Type 0 where
   pub made : HasTranslated p q b b' r va kind t
   pub allowed : (items : List Item) (fills : List Fill) → GoesWithFills p b r items fills → AnswersAllowed p q b' r va kind t items fills
   pub goes : GoesBy 15 IsOfFill p q
+  pub beside : IsBeside b' q
 
 -- within a page of RAM: bytes of one word, or of two, for which the section is needed
 abbrev pub within_page : (pa width : ℕ) → (section : Bool) → Result Place Got
