@@ -139,7 +139,7 @@ pub record Arrived (o : Own) (m : Shown) (b' : Book) (c : Arch) (kind : Kind) (v
   pub apart : AreApart x
 
 -- answers are placed
-placed_led : (o : Own) (p m : Shown) (b b' : Book) (c : Arch) (kind : Kind) (va : ℕ) (t : Translated) (u : Setup) (a : ℕ) (l : Log) → Translates p m b b' (regime c) kind va t → Tells o p b (regime c) u a l → ArePlaced va t m
+pub placed_led : (o : Own) (p m : Shown) (b b' : Book) (c : Arch) (kind : Kind) (va : ℕ) (t : Translated) (u : Setup) (a : ℕ) (l : Log) → Translates p m b b' (regime c) kind va t → Tells o p b (regime c) u a l → ArePlaced va t m
 placed_led o p m b b' c kind va t u a l call x = all_placed p m b b' (regime c) kind va t call.allowed (ap (λ (y : Machine). y.layout) (machine_goes 15 IsOfFill p m call.goes)) (record { items = flushes_in a l; fills = x.fills; goes = x.goes })
 
 first_placed : (va first : ℕ) (t : Translated) (m : Shown) → t ≡ gives.Ram first → ArePlaced va t m → IsPlaced first va m

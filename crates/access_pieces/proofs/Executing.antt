@@ -9,7 +9,7 @@ use Rattle.rv64_exec.specs.declared.needs.Need.{Need}
 use Rattle.rv64_exec.specs.declared.needs.Answer.{Answer}
 use Rattle.step_laws.specs.declared.steps.Step.{Step}
 use Rattle.step_laws.specs.declared.steps.WordOp.{WordOp}
-use Rattle.step_laws.specs.declared.steps.WordOp.TheVariants.{Load, Store}
+use Rattle.step_laws.specs.declared.steps.WordOp.TheVariants.{Load, Store, Exchange}
 use Rattle.step_laws.specs.Map.{Ram, name_of}
 use Rattle.step_laws.specs.Words.{ram_word}
 use Rattle.machine_model.specs.Event.{Event, Exec, Outcome, did_of, only}
@@ -65,6 +65,10 @@ quiet_exec o q b r c need answer walk second u a l t none wants hart seen calm r
       };
     }
 
+-- the step on the word of an address
+abbrev pub step_at : Shown → (op : WordOp) → (pa arg answer : ℕ) → Step
+step_at m op pa arg answer = step_of m.own.actor (ram_word pa) op arg answer
+
 -- behind a load of RAM
 pub record Loaded (o : Own) (q : Shown) (b : Book) (r : Regime) (u : Setup) (a : ℕ) (l : Log) (s : Step) : Type 0 where
   pub grows : Grows u a l (made s ∷ l)
@@ -96,3 +100,26 @@ load_no_store e = cc
 -- the word of the last load held what it answered
 pub held_here : (u : Setup) (a : ℕ) (l : Log) (m q : Shown) (pa word : ℕ) (w : Surroundings) → HasStepped Load pa 0 word m q → MayBe u a (made (load_of m pa word) ∷ l) w → w.memory (ram_word pa) ≡ word
 held_here u a l m q pa word w x may = may.here.0 (subst IsShared (sym x.name) tt) load_no_store
+
+-- behind an exchange that found another value
+pub lost_in : (o : Own) (m q : Shown) (b : Book) (r : Regime) (pa seen new found : ℕ) (u : Setup) (a : ℕ) (l : Log) → Tells o m b r u a l → seen ≢ found → HasStepped (Exchange seen) pa new found m q → Loaded o q b r u a l (step_at m (Exchange seen) pa new found)
+lost_in o m q b r pa seen new found u a l t other x =
+    let s = step_at m (Exchange seen) pa new found in
+    let calm : IsCalm (name_of (ram_word pa)) (Exchange seen) found = subst (λ v. IsCalm v (Exchange seen) found) (sym x.name) other in
+    let plain : (n : ℕ) → IsPlain n (name_of (ram_word pa)) (Exchange seen) = λ n. subst (λ v. IsPlain n v (Exchange seen)) (sym x.name) tt in
+    let inner : IsInner (name_of (ram_word pa)) = subst IsInner (sym x.name) tt in
+    let quiet : QuietBy IsInner 1 (view m) (view q) = record { added = s ∷ []; few = omega arith; grown = ap view x.step; calm = (calm, plain m.own.actor, tt); inner = (inner, tt) } in record {
+      grows = quietly_grows u a (s ∷ []) l (calm, plain a, tt) t.tells.clear t.tells.none_drawn;
+      tells = record {
+        tells = quietly_tells IsInner 1 o (view m) (view q) u a l quiet t.tells;
+        fills = t.fills;
+        goes = fills_stay m q b r (flushes_in a l) t.fills (s ∷ []) (ap (λ (y : Shown). y.own.steps) x.step) (same_goes 1 IsOfRam m q ram_off (goes_stepped (Exchange seen) pa new found m q x)) t.goes;
+      };
+      clear = calm_owes a (owed l) (unstored l) (name_of (ram_word pa)) (Exchange seen) (ram_word pa) new found calm (plain a);
+    }
+
+exchange_no_store : (seen : ℕ) → Exchange seen ≢ Store
+exchange_no_store seen e = cc
+
+pub exchange_held : (u : Setup) (a : ℕ) (l : Log) (m q : Shown) (pa seen new found : ℕ) (w : Surroundings) → HasStepped (Exchange seen) pa new found m q → MayBe u a (made (step_at m (Exchange seen) pa new found) ∷ l) w → w.memory (ram_word pa) ≡ found
+exchange_held u a l m q pa seen new found w x may = may.here.0 (subst IsShared (sym x.name) tt) (exchange_no_store seen)

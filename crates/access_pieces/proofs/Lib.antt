@@ -5,3 +5,6 @@ pub mod Sections
 pub mod Arrived
 pub mod Executing
 pub mod Loads
+pub mod Writing
+pub mod Atomic
+pub mod Reserved

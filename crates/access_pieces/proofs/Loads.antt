@@ -56,7 +56,7 @@ load_as : (w : Surroundings) (h : ℕ) (c : Arch) (va width : ℕ) (sign : Bool)
 unfolding perform
 load_as w h c va width sign walk second at e = ap (load_outcome w.memory va width sign) (sym e)
 
-hart_there : (o : Own) (p : Shown) (b : Book) (c : Arch) (u : Setup) (a : ℕ) (l : Log) → CanAccess b p → Tells o p b (regime c) u a l → a < u.layout.harts
+pub hart_there : (o : Own) (p : Shown) (b : Book) (c : Arch) (u : Setup) (a : ℕ) (l : Log) → CanAccess b p → Tells o p b (regime c) u a l → a < u.layout.harts
 hart_there o p b c u a l can t = subst (λ n. n < u.layout.harts) (sym t.tells.stands.actor) (subst (λ (y : Layout). p.own.actor < y.harts) (sym t.tells.stands.layout) can.beside.hart)
 
 -- an answer without another step
@@ -181,15 +181,15 @@ unreached_served o p m b b' c va width sign gets.NeedsSection u a l can wants t 
 unreached_served o p m b b' c va width sign (gets.Busy busy) u a l can wants t k ar = record { late = ar.late; grows = ar.grows; holds = ar.tells }
 
 pub loads_serve : LoadsServe
-loads_serve p q b b' c va width sign section got w can told (in_word {mid} {pa} {word} reached x e) = λ o wants u a l t.
+loads_serve p q b b' c va width sign section got w can told (in_word {mid} {pa} {word} reached x e) = λ o wants u a l rests. let t = rests.tells in
     subst (λ (g : Got). Ends u a l (Served o g q b' (regime c) u a)) (sym e)
     (word_served o p mid q b b' c va width pa word sign u a l can wants t (arrived o p mid b b' c Kind.Load va width section (Ok (at.Word pa)) u a l w can.beside t reached) x)
-loads_serve p q b b' c va width sign section got w can told (over_words {mid} {next} {first} {second} {low} {high} reached x y e) = λ o wants u a l t.
+loads_serve p q b b' c va width sign section got w can told (over_words {mid} {next} {first} {second} {low} {high} reached x y e) = λ o wants u a l rests. let t = rests.tells in
     subst (λ (g : Got). Ends u a l (Served o g q b' (regime c) u a)) (sym e)
     (words_served o p mid next q b b' c va width first second low high sign u a l can wants t (arrived o p mid b b' c Kind.Load va width section (Ok (at.Words first second)) u a l w can.beside t reached)
     (section_reached p mid b b' c Kind.Load va width section (Ok (at.Words first second)) reached (told (words_sectioned p mid b b' c Kind.Load va width first second section reached))) x y)
-loads_serve p q b b' c va width sign section got w can told (on_device {pa} reached e) = λ o wants u a l t.
+loads_serve p q b b' c va width sign section got w can told (on_device {pa} reached e) = λ o wants u a l rests. let t = rests.tells in
     subst (λ (g : Got). Ends u a l (Served o g q b' (regime c) u a)) (sym e)
     (device_served o p q b b' c va width pa sign u a l (device_value pa width) refl can wants t (arrived o p q b b' c Kind.Load va width section (Ok (at.Device pa)) u a l w can.beside t reached))
-loads_serve p q b b' c va width sign section got w can told (unreached reached) = λ o wants u a l t.
+loads_serve p q b b' c va width sign section got w can told (unreached reached) = λ o wants u a l rests. let t = rests.tells in
     unreached_served o p q b b' c va width sign got u a l can wants t (reach_ends p q b b' c va width section (Err got) reached) (arrived o p q b b' c Kind.Load va width section (Err got) u a l w can.beside t reached)

@@ -14,6 +14,7 @@ use Rattle.tlb_entry.specs.declared.books.Book.{Book}
 use Rattle.kept_fills.specs.Fills.{Fill, GoesWithFills}
 use Rattle.turn_pieces.specs.Log.{Log}
 use Rattle.turn_pieces.specs.KeptWalks.{flushes_in}
+use Rattle.turn_pieces.specs.Owed.{nothing, owed}
 use Rattle.turn_pieces.specs.Grows.{Part}
 use Rattle.turn_pieces.specs.Writers as writers
 use Rattle.guest_access.specs.declared.outcomes.Got.{Got}
@@ -41,7 +42,12 @@ Served o (gets.Done answer) q b r u a l = Tells (own_executed (only answer) o) q
 Served o (gets.Fault cause tval) q b r u a l = Tells (own_executed (only (Answer.Fault cause tval)) o) q b r u a l
 Served o got q b r u a l = Tells o q b r u a l
 
--- each log that tells of the port before goes on, by steps that may be made and events that are right, to one that tells of the port behind:
--- with the execution of the need where the access came to its answer
+-- nor does the log's last step owe an event, as a load's doesn't
+pub record Rests (o : Own) (p : Shown) (b : Book) (r : Regime) (u : Setup) (a : ℕ) (l : Log) : Type 0 where
+  pub tells : Tells o p b r u a l
+  pub idle : owed l ≡ nothing
+
+-- each log that tells of the port before, and rests, goes on by steps that may be made and events that are right to one that tells of the port
+-- behind: with the execution of the need where the access came to its answer
 abbrev pub Serves : (p q : Shown) (b b' : Book) → Arch → Need → Got → Type 0
-Serves p q b b' c need got = (o : Own) → Wants o c need → Part (Tells o p b (regime c)) (Served o got q b' (regime c))
+Serves p q b b' c need got = (o : Own) → Wants o c need → Part (Rests o p b (regime c)) (Served o got q b' (regime c))
