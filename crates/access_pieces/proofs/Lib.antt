@@ -1,0 +1,10 @@
+pub mod Calm
+pub mod Spots
+pub mod Led
+pub mod Sections
+pub mod Arrived
+pub mod Executing
+pub mod Loads
+pub mod Writing
+pub mod Atomic
+pub mod Reserved

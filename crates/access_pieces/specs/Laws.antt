@@ -1,0 +1,31 @@
+-- Laws of accesses: what the steps that an access made are to its hart's log.
+use Rattle.std.specs.Prelude.{◌≡◌, ℕ, Bool, true, IsTrue}
+use Rattle.rv64_priv.specs.State.{Arch}
+use Rattle.rv64_priv.specs.Csr.{regime}
+use Rattle.rv64_exec.specs.Widths.{is_width}
+use Rattle.rv64_exec.specs.declared.needs.Need.{Need}
+use Rattle.step_laws.specs.Sections.{IsInSection}
+use Rattle.guest_ram.specs.Ports.{Shown, layout_of}
+use Rattle.tlb_entry.specs.declared.books.Book.{Book}
+use Rattle.guest_access.specs.declared.outcomes.Got.{Got}
+use Rattle.guest_access.specs.Atomics.{HasReserved, HasConditional}
+use Rattle.guest_access.specs.Loading.{HasLoaded}
+use Rattle.guest_access.specs.Reaching.{CanAccess}
+use Rattle.access_pieces.specs.Serving.{Serves}
+
+-- the hart is in its section where the access was told so
+abbrev pub IsTold : (section : Bool) → Shown → Type 0
+IsTold section p = section ≡ true → IsInSection (layout_of p) p.own.actor p.own.steps
+
+-- a load is served by its steps
+abbrev pub LoadsServe : Type 0
+LoadsServe = (p q : Shown) (b b' : Book) (c : Arch) (va width : ℕ) (sign section : Bool) (got : Got) → IsTrue (is_width width) → CanAccess b p → IsTold section p
+    → HasLoaded p q b b' (regime c) va width sign section got → Serves p q b b' c (Need.Load va width sign) got
+
+-- a load-reserved, and a store-conditional, is served by its steps
+abbrev pub ReservesServe : Type 0
+ReservesServe = (p q : Shown) (b b' : Book) (c : Arch) (va : ℕ) (wide : Bool) (got : Got) → CanAccess b p → HasReserved p q b b' (regime c) va wide got → Serves p q b b' c (Need.Lr va wide) got
+
+abbrev pub ConditionalsServe : Type 0
+ConditionalsServe = (p q : Shown) (b b' : Book) (c : Arch) (va : ℕ) (wide : Bool) (value : ℕ) (got : Got) → CanAccess b p → HasConditional p q b b' (regime c) va c.hold wide value got
+    → Serves p q b b' c (Need.Sc va wide value) got

@@ -1,0 +1,14 @@
+// Laws of accesses: each function's contract is its law.
+ghost use Rattle.access_pieces.specs.Laws.{ConditionalsServe, LoadsServe, ReservesServe};
+
+/// A load is served: behind its steps the log has the load's execution, with the answer that the reference machine gives in every state that
+/// fits the steps; or nothing was executed.
+pub fn law_loads()
+    ensures { LoadsServe }
+{}
+
+/// A load-reserved is served so, and a store-conditional, of which the execution that stores stands at its exchange.
+pub fn law_reservations()
+    ensures reserves { ReservesServe }
+    ensures conditionals { ConditionalsServe }
+{}

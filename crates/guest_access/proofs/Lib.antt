@@ -1,0 +1,10 @@
+pub mod Areas
+pub mod Keeping
+pub mod Fills
+pub mod Reached
+pub mod Arms
+pub mod Followed
+pub mod Running
+pub mod Loaded
+pub mod Stored
+pub mod Placing

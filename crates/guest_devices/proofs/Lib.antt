@@ -1,0 +1,3 @@
+pub mod Touched
+pub mod Cleared
+pub mod Goes

@@ -1,0 +1,3 @@
+pub mod Output
+pub mod Pending
+pub mod Stores
