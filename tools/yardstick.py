@@ -1,9 +1,11 @@
 #!/usr/bin/env python3
-"""Compares `tlbvm dis` with GNU binutils' assembler, over every instruction line with operands at their edges.
+"""Compares `tlbvm dis` and `tlbvm asm` with GNU binutils' assembler, over every instruction line with operands at their edges.
 
 The assembler makes a word of each line; `dis` lists the words, and its lines have to be those again, with absolute targets.
-Then words with random operands: where `dis` finds an instruction, the assembler makes the word again of its text. Skipped,
-with status 0, where there are no binutils for RISC-V (Debian has them as binutils-riscv64-linux-gnu).
+Then words with random operands: where `dis` finds an instruction, the assembler makes the word again of its text. Texts over
+every mnemonic, with labels, names of registers and CSRs, data and the shorthands, become the same bytes by `asm` and by the
+assembler with its linker. Skipped, with status 0, where there are no binutils for RISC-V (Debian has them as
+binutils-riscv64-linux-gnu).
 """
 import itertools
 import os
@@ -134,6 +136,55 @@ def compare(what, pairs):
     print(f"yardstick: {what}: {len(pairs)} agree")
 
 
+def texts():
+    """Pairs of lines, for `asm` and for the assembler, which has other shorthands for `li` and for moves of the place."""
+    names = "zero ra sp gp tp t0 t1 t2 s0 s1 a0 a1 a2 a3 a4 a5 a6 a7 s2 s3 s4 s5 s6 s7 s8 s9 s10 s11 t3 t4 t5 t6".split()
+    csrs = "sstatus sie stvec scounteren sscratch sepc scause stval sip satp".split()
+    pairs = []
+    for number, (line, text) in enumerate(listing()):
+        if number % 100 == 0:
+            pairs.append((f"L{number // 100}:", f"L{number // 100}:"))
+        if text is None:
+            continue
+        if "." in line and re.search(r"\.[+-]\d+$", line):
+            label = f"L{number // 100}"
+            text = re.sub(r"\.[+-]\d+$", label, line)
+        pairs.append((text, line if text == "fence" else text))
+    pairs += [(f"add {d}, {names[31 - at]}, {d}",) * 2 for at, d in enumerate(names)]
+    pairs += [(f"csrrw t0, {csr}, a0  # a CSR", f"csrrw t0, {csr}, a0") for csr in csrs]
+    pairs += [("mv s1, s11",) * 2, ("addi t0, t0, -0x80",) * 2, ("\tandi\tt0 ,\tt1,0x07f ",) * 2, ("end: j end",) * 2]
+    for n in [0, 1, -1, 2047, 2048, -2048, -2049, 0x12345FFF, 0x7FFFF7FF, 0x7FFFF800, 0x7FFFFFFF, -0x80000000]:
+        low = (n + 0x800) % 0x1000 - 0x800
+        upper = ((n - low) >> 12) % 0x100000
+        pairs.append((f"li t3, {n}", f"lui t3, {upper}\n addiw t3, t3, {low}"))
+    pairs += [("la a0, L0",) * 2, ("la a1, data",) * 2]
+    pairs += [(".byte 255, -128, 0, 0x7f",) * 2, (".word 0xffffffff, -2147483648",) * 2, ("data: .dword 0xfedcba9876543210, -1",) * 2]
+    pairs += [(f".org {BASE + 0x100000:#x}", ".org 0x100000"), ("la a0, data",) * 2, ("la a1, far",) * 2]
+    pairs += [(f".org {BASE + 0x200000:#x}", ".org 0x200000"), ("far: wfi",) * 2]
+    return pairs
+
+
+def linked(assembler, lines):
+    """The bytes of these lines, linked at the beginning of RAM."""
+    source, made, whole, flat = (f"{assembler.folder}/text.{kind}" for kind in ("s", "o", "elf", "bin"))
+    pathlib.Path(source).write_text("\n".join([".option norvc", ".option norelax", *lines, ""]))
+    prefix = assembler.prefix
+    subprocess.run([prefix + "as", ARCHITECTURE, "-o", made, source], check=True)
+    subprocess.run([prefix + "ld", "--no-relax", "-e", str(BASE), "-Ttext", hex(BASE), "-o", whole, made], check=True)
+    subprocess.run([prefix + "objcopy", "-O", "binary", "-j", ".text", whole, flat], check=True)
+    return pathlib.Path(flat).read_bytes()
+
+
+def assembled(folder, lines):
+    """The image that `asm` makes of these lines."""
+    path = pathlib.Path(folder) / "text.s"
+    path.write_text("\n".join([*lines, ""]))
+    done = subprocess.run([PROGRAM, "asm", path], capture_output=True)
+    if done.returncode != 0:
+        sys.exit(done.stderr.decode())
+    return done.stdout[4096:]
+
+
 def random_words():
     """Words under the opcodes that are used, of which most are no instruction's."""
     opcodes = [0x03, 0x0F, 0x13, 0x17, 0x1B, 0x23, 0x2F, 0x33, 0x37, 0x3B, 0x63, 0x67, 0x6F, 0x73]
@@ -156,6 +207,12 @@ def main():
         found = [(word, relative(int(place[:-1], 16), text)) for place, word, text in split if not text.startswith(".word")]
         words = assembler.words([text for _, text in found])
         compare("random words", [(word, f"{made:08x}") for (word, _), made in zip(found, words)])
+        pairs = texts()
+        ours, theirs = assembled(folder, [line for line, _ in pairs]), linked(assembler, [line for _, line in pairs])
+        if len(ours) != len(theirs):
+            sys.exit(f"yardstick: {len(ours)} bytes by asm, {len(theirs)} by GNU as")
+        quads = range(0, len(ours), 4)
+        compare("the words of texts", [(theirs[at : at + 4].hex(), ours[at : at + 4].hex()) for at in quads])
 
 
 if __name__ == "__main__":
