@@ -8,3 +8,4 @@ pub mod Loads
 pub mod Writing
 pub mod Atomic
 pub mod Reserved
+pub mod Amos
