@@ -1,5 +1,5 @@
 -- Atomic operations on memory are served.
-use Rattle.std.proofs.Common.{◌≡◌, ◌≢◌, ℕ, ◌+◌, ◌*◌, ◌/◌, ◌%◌, ◌<◌, ◌≤◌, ◌^◌, Bool, true, false, List, [], ◌∷◌, Option, Some, None, Ok, Err, refl, sym, ap, subst, ◌∙◌, arith, inl, inr}
+use Rattle.std.proofs.Common.{◌≡◌, ◌≢◌, ℕ, ◌+◌, ◌/◌, ◌%◌, ◌<◌, ◌≤◌, ◌^◌, Bool, true, false, [], ◌∷◌, Option, Some, None, refl, sym, ap, subst, ◌∙◌, arith, inl}
 use Rattle.std.specs.Prelude.{◌-◌, nat_lt, if◌then◌else◌, min, max, bit_and, bit_or, bit_xor, pos, negsuc}
 use Rattle.std.specs.Int.{w64, cast_unsigned}
 use Rattle.std.proofs.lemmas.Nat.{and_le_l, or_lt, xor_lt}
@@ -19,20 +19,19 @@ use Rattle.machine_model.specs.Event.{Outcome, only}
 use Rattle.machine_model.specs.Lawful.{flushing}
 use Rattle.machine_model.specs.Memory.{Memory, One, number_in, replaced}
 use Rattle.machine_model.specs.Own.{Own, own_executed}
-use Rattle.machine_model.specs.Perform.{Surroundings, amo_outcome, combined, extended, perform, signed, width_of}
+use Rattle.machine_model.specs.Perform.{Surroundings, amo_outcome, combined, extended, perform, width_of}
 use Rattle.machine_model.specs.State.{Setup}
 use Rattle.guest_ram.specs.Ports.{Shown}
 use Rattle.tlb_entry.specs.declared.books.Book.{Book}
 use Rattle.turn_pieces.specs.Log.{made, Log}
-use Rattle.turn_pieces.specs.Owed.{MayMake, owed, writes}
+use Rattle.turn_pieces.specs.Owed.{MayMake, owed}
 use Rattle.turn_pieces.specs.Right.{MayBe}
 use Rattle.turn_pieces.specs.Grows.{Ends, IsClear}
 use Rattle.turn_pieces.specs.Shared.{IsShared}
 use Rattle.turn_pieces.proofs.Offers.{free}
 use Rattle.turn_pieces.proofs.Writers.{ends_then, grows_then, owed_named, seen_quietly}
 use Rattle.guest_access.specs.declared.outcomes.Got.{Got}
-use Rattle.guest_access.specs.declared.outcomes.Got.TheVariants as gets
-use Rattle.guest_access.specs.Atomics.{HasExchangedFor, HasOperatedAt, HasOperatedOn, done, exchanged, gives_old, lost, new_word, old_number, on_none, on_word, whole}
+use Rattle.guest_access.specs.Atomics.{HasExchangedFor, HasOperatedOn, done, exchanged, lost, new_word, old_number, on_none, on_word, whole}
 use Rattle.guest_access.specs.Reaching.{CanAccess}
 use Rattle.guest_access.specs.Stepping.{HasStepped, whole_op}
 use Rattle.guest_access.specs.Storing.{HasExchanged}
@@ -136,8 +135,8 @@ whole_operated memory va pa old value amo op e within less few held =
     let zero_at : pa % 8 ≡ 0 = omega (arith, within) in
     let number : old_number pa true old ≡ old = ap (λ n. number_in old n 8) zero_at ∙ whole_number old less in
     let new : new_of op old value ≡ new_word amo pa true value old
-        = whole_value amo op old value e less few ∙ sym (ap (λ n. replaced old n 8 (combined amo true (old_number pa true old) value)) zero_at ∙ whole_replaced old (combined amo true (old_number pa true old) value) less
-        ∙ ap (λ n. combined amo true n value % 2 ^ 64) number) in
+    = whole_value amo op old value e less few ∙ sym (ap (λ n. replaced old n 8 (combined amo true (old_number pa true old) value)) zero_at ∙ whole_replaced old (combined amo true (old_number pa true old) value) less
+    ∙ ap (λ n. combined amo true n value % 2 ^ 64) number) in
     (λ i. wrote (ram_word pa) (new i) (Answer.Value (sym (ap (extended true 8) number ∙ whole_extended old less) i))) ∙ operated_as memory va pa old value amo true held
 
 module _ (o : Own) (p m q : Shown) (b b' : Book) (c : Arch) (va pa value : ℕ) (op : AmoOp) (u : Setup) (a : ℕ) (l : Log) (can : CanAccess b p) (t : Tells o p b (regime c) u a l) (few : value < 2 ^ 64) where

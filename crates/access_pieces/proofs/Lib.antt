@@ -9,3 +9,6 @@ pub mod Writing
 pub mod Atomic
 pub mod Reserved
 pub mod Amos
+pub mod StoresInRam
+pub mod StoresOnDevices
+pub mod Stores

@@ -12,6 +12,8 @@ use Rattle.rv64_exec.specs.declared.needs.AmoOp.{AmoOp}
 use Rattle.guest_access.specs.Atomics.{HasConditional, HasOperatedAt, HasReserved}
 use Rattle.guest_access.specs.Loading.{HasLoaded}
 use Rattle.guest_access.specs.Reaching.{CanAccess}
+use Rattle.guest_access.specs.Storing.{HasStored}
+use Rattle.turn_pieces.specs.Draws.{may_draw}
 use Rattle.access_pieces.specs.Serving.{Serves}
 
 -- the hart is in its section where the access was told so
@@ -35,3 +37,8 @@ ConditionalsServe = (p q : Shown) (b b' : Book) (c : Arch) (va : ℕ) (wide : Bo
 abbrev pub AmosServe : Type 0
 AmosServe = (p q : Shown) (b b' : Book) (c : Arch) (va : ℕ) (op : AmoOp) (wide : Bool) (value : ℕ) (got : Got) → value < 2 ^ 64 → CanAccess b p → HasOperatedAt p q b b' (regime c) va op wide value got
     → Serves p q b b' c (Need.Amo va op wide value) got
+
+-- a store of this value, of a hart that has drawn no console place beyond the last since it looked at STOP
+abbrev pub StoresServe : Type 0
+StoresServe = (p q : Shown) (b b' : Book) (c : Arch) (va width value : ℕ) (section : Bool) (got : Got) → IsTrue (is_width width) → value < 2 ^ 64 → CanAccess b p → IsTold section p → may_draw p.own.steps ≡ true
+    → HasStored p q b b' (regime c) va width value section got → Serves p q b b' c (Need.Store va width value) got
