@@ -1,13 +1,10 @@
 -- Lines without a fault, some behind others.
-use Rattle.std.proofs.Common.{◌≡◌, refl, ap, sym, subst, ◌∙◌, ℕ, zero, suc, ◌+◌, ◌*◌, ◌-◌, ◌<◌, ◌≤◌, Bool, true, false, ◌&&◌, List, [], ◌∷◌, ◌++◌, length, arith}
-use Rattle.std.specs.Prelude.{Option, Some, None, Result, Ok, Err, nat_le}
-use Rattle.std.specs.List.{list_all}
+use Rattle.std.proofs.Common.{◌≡◌, refl, ap, sym, subst, ◌∙◌, ℕ, suc, ◌+◌, ◌≤◌, Bool, true, false, List, [], ◌∷◌, ◌++◌, length, arith}
+use Rattle.std.specs.Prelude.{None, Result, Ok, Err, nat_le}
 use Rattle.std.proofs.lemmas.List.{append-nil, append_assoc}
-use Rattle.text_lines.specs.Lines.{lines_of}
 use Rattle.asm_text.specs.declared.faults.Fault.{Fault}
 use Rattle.asm_text.specs.Action.{Action, Line, line_of}
 use Rattle.rv_asm.specs.Assembly.{Set, Bad, action_bytes, room_of, last_place, line_bytes, lines_bytes, bytes_then, set_by, sets_of, place_behind}
-use Rattle.asm_laws.specs.Texts.{with_feeds}
 
 abbrev pub is_fine : Result (List ℕ) Bad → Bool
 is_fine (Ok bytes) = true
@@ -34,8 +31,8 @@ fine_behind before sets place count (x ∷ xs) ys e f =
     let l = line_of x in
     let same : count + suc (length xs) ≡ count + 1 + length xs = omega arith in
     let here : is_fine (lines_bytes (before ++ set_by place l.label ++ sets_of (place_behind place l) xs) sets (place_after (place_behind place l) xs) (count + 1 + length xs) ys) ≡ true
-        = subst (λ b. is_fine (lines_bytes b sets (place_after (place_behind place l) xs) (count + 1 + length xs) ys) ≡ true) (sym (append_assoc before (set_by place l.label) (sets_of (place_behind place l) xs)))
-            (subst (λ n. is_fine (lines_bytes (before ++ sets_of place (x ∷ xs)) sets (place_after (place_behind place l) xs) n ys) ≡ true) same f) in
+    = subst (λ b. is_fine (lines_bytes b sets (place_after (place_behind place l) xs) (count + 1 + length xs) ys) ≡ true) (sym (append_assoc before (set_by place l.label) (sets_of (place_behind place l) xs)))
+    (subst (λ n. is_fine (lines_bytes (before ++ sets_of place (x ∷ xs)) sets (place_after (place_behind place l) xs) n ys) ≡ true) same f) in
     both_fine count (line_bytes before sets place l) (lines_bytes (before ++ set_by place l.label) sets (place_behind place l) (count + 1) xs)
     (lines_bytes (before ++ set_by place l.label) sets (place_behind place l) (count + 1) (xs ++ ys)) e
     (λ g. fine_behind (before ++ set_by place l.label) sets (place_behind place l) (count + 1) xs ys g here)

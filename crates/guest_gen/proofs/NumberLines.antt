@@ -1,15 +1,14 @@
 -- The lines with numbers: rounds, entries of page tables, and frames.
-use Rattle.std.proofs.Common.{◌≡◌, refl, ap, sym, subst, ◌∙◌, ℕ, zero, suc, ◌+◌, ◌*◌, ◌-◌, ◌<◌, ◌≤◌, Bool, true, false, ◌&&◌, List, [], ◌∷◌, ◌++◌, length, arith}
-use Rattle.std.specs.Prelude.{◌%◌, ◌^◌, Option, Some, None, Result, Ok, Err, nat_le, codes, replicate}
-use Rattle.std.specs.List.{list_all}
-use Rattle.std.specs.Fmt.{digits, decimal}
-use Rattle.asm_text.specs.Operand.{number, Reg, Num, values_of, numbers_of, with_number}
-use Rattle.asm_text.specs.Action.{Action, Data, MovesTo, LoadsNumber, line_of, action_of, data_of, with_values, load_number, move_to}
-use Rattle.rv_asm.specs.Assembly.{Set, first_place, last_place, lines_bytes, sets_of, number_loaded, bytes_of, word_bytes, upper_immediate, upper_part, low_part}
+use Rattle.std.proofs.Common.{◌≡◌, refl, ap, sym, subst, ◌∙◌, ℕ, zero, suc, ◌+◌, ◌*◌, ◌-◌, ◌<◌, ◌≤◌, true, false, List, [], ◌∷◌, ◌++◌, arith}
+use Rattle.std.specs.Prelude.{◌^◌, Some, Ok, nat_le, codes, replicate}
+use Rattle.std.specs.Fmt.{decimal}
+use Rattle.asm_text.specs.Operand.{number, with_number}
+use Rattle.asm_text.specs.Action.{Data, MovesTo, LoadsNumber, line_of, action_of, data_of}
+use Rattle.rv_asm.specs.Assembly.{Set, last_place, lines_bytes, sets_of, bytes_of, word_bytes, upper_immediate, upper_part, low_part}
 use Rattle.rv64_decode.specs.declared.instruction.Instr.{Instr}
 use Rattle.asm_laws.proofs.Numbers.{decimal_number, short_hex_number}
 use Rattle.asm_laws.proofs.Lines.{line_says}
-use Rattle.asm_laws.proofs.Forms.{Operated, one_operated, two_operated, decimal_piece, short_hex_piece, hex_text, line_with, operated_as}
+use Rattle.asm_laws.proofs.Forms.{one_operated, two_operated, decimal_piece, short_hex_piece, hex_text, line_with}
 use Rattle.guest_gen.specs.Text.{hex_number, entries, frames, rounds, rounds_line}
 use Rattle.guest_gen.proofs.Fine.{Does, is_fine, place_after, place_then, fine_then, sets_then}
 
@@ -95,11 +94,11 @@ frames_fine before sets place count first (suc n) ahead within =
     let two : first + 8 + (first + 4096 - (first + 8)) ≡ first + 4096 = omega arith in
     fine_then before sets place count (hex_number (codes ".org") first) (first - place) second (org_does sets place first ahead (omega (arith, within)))
     (subst (λ p. is_fine (lines_bytes before sets p (count + 1) second) ≡ true) (sym at)
-        (fine_then before sets first (count + 1) (codes ".dword 3") 8 third (small_does sets first (codes ".dword 3") 3 refl (omega arith) (omega (arith, within)))
-            (fine_then before sets (first + 8) (count + 1 + 1) (hex_number (codes ".org") (first + 4096)) (first + 4096 - (first + 8)) last (org_does sets (first + 8) (first + 4096) (omega arith) (omega (arith, within)))
-                (subst (λ p. is_fine (lines_bytes before sets p (count + 1 + 1 + 1) last) ≡ true) (sym two)
-                    (fine_then before sets (first + 4096) (count + 1 + 1 + 1) (codes ".dword 5") 8 (frames (first + 8192) n) (small_does sets (first + 4096) (codes ".dword 5") 5 refl (omega arith) (omega (arith, within)))
-                        (frames_fine before sets (first + 4096 + 8) (count + 1 + 1 + 1 + 1) (first + 8192) n (omega arith) (omega (arith, within))))))))
+    (fine_then before sets first (count + 1) (codes ".dword 3") 8 third (small_does sets first (codes ".dword 3") 3 refl (omega arith) (omega (arith, within)))
+    (fine_then before sets (first + 8) (count + 1 + 1) (hex_number (codes ".org") (first + 4096)) (first + 4096 - (first + 8)) last (org_does sets (first + 8) (first + 4096) (omega arith) (omega (arith, within)))
+    (subst (λ p. is_fine (lines_bytes before sets p (count + 1 + 1 + 1) last) ≡ true) (sym two)
+    (fine_then before sets (first + 4096) (count + 1 + 1 + 1) (codes ".dword 5") 8 (frames (first + 8192) n) (small_does sets (first + 4096) (codes ".dword 5") 5 refl (omega arith) (omega (arith, within)))
+    (frames_fine before sets (first + 4096 + 8) (count + 1 + 1 + 1 + 1) (first + 8192) n (omega arith) (omega (arith, within))))))))
 
 pub frames_sets : (place first n : ℕ) → place ≤ first → first + 8192 * n ≤ last_place → sets_of place (frames first n) ≡ []
 unfolding frames

@@ -1,11 +1,11 @@
 -- The text has no line with a fault, whatever its number.
-use Rattle.std.proofs.Common.{◌≡◌, refl, ap, sym, subst, ◌∙◌, ℕ, zero, suc, ◌+◌, ◌*◌, ◌<◌, ◌≤◌, Bool, true, false, ◌&&◌, List, [], ◌∷◌, ◌++◌, length, arith}
+use Rattle.std.proofs.Common.{◌≡◌, refl, ap, sym, subst, ◌∙◌, ℕ, zero, suc, ◌+◌, ◌*◌, ◌<◌, true, false, List, [], ◌∷◌, ◌++◌, length, arith}
 use Rattle.std.specs.Prelude.{◌^◌, Result, Ok, Err, codes, IsOk}
 use Rattle.std.proofs.lemmas.List.Folds.{list_all-append}
 use Rattle.std.specs.List.{list_all}
 use Rattle.std.proofs.lemmas.List.{length-append, append_assoc}
 use Rattle.text_lines.specs.Lines.{lines_of}
-use Rattle.rv_asm.specs.Assembly.{Set, Bad, first_place, last_place, lines_bytes, sets_of, bytes_of, file_or, image_of_text, assembly_of}
+use Rattle.rv_asm.specs.Assembly.{Set, Bad, first_place, lines_bytes, sets_of, bytes_of, file_or, image_of_text, assembly_of}
 use Rattle.asm_laws.specs.Texts.{with_feeds}
 use Rattle.asm_laws.proofs.Lists.{all_passes, pass_on, both}
 use Rattle.asm_laws.proofs.Lines.{is_text_byte}
@@ -35,8 +35,8 @@ segments : (before added more : List Set) (place next last count many others : �
 segments before added more place next last count many others xs ys s t = record {
   fine = fine_behind before all_sets place count xs ys s.fine
       (subst (λ n. is_fine (lines_bytes (before ++ sets_of place xs) all_sets (place_after place xs) (count + n) ys) ≡ true) (sym s.long)
-          (subst (λ p. is_fine (lines_bytes (before ++ sets_of place xs) all_sets p (count + many) ys) ≡ true) (sym s.ends)
-              (subst (λ l. is_fine (lines_bytes (before ++ l) all_sets next (count + many) ys) ≡ true) (sym s.sets) t.fine)));
+      (subst (λ p. is_fine (lines_bytes (before ++ sets_of place xs) all_sets p (count + many) ys) ≡ true) (sym s.ends)
+      (subst (λ l. is_fine (lines_bytes (before ++ l) all_sets next (count + many) ys) ≡ true) (sym s.sets) t.fine)));
   sets = sets_behind place xs ys ∙ ap (λ l. l ++ sets_of (place_after place xs) ys) s.sets ∙ ap (λ p. added ++ sets_of p ys) s.ends ∙ ap (λ l. added ++ l) t.sets;
   ends = place_behind_both place xs ys ∙ ap (λ p. place_after p ys) s.ends ∙ t.ends;
   long = length-append xs ys ∙ ap (λ n. n + length ys) s.long ∙ ap (λ n. many + n) t.long;

@@ -1,7 +1,5 @@
-use Rattle.std.proofs.Common.{sym, arith}
+use Rattle.std.proofs.Common.{arith}
 use Rattle.std.specs.Prelude.{string_bytes}
-use Rattle.std.proofs.lemmas.List.{append-nil}
-use Rattle.guest_gen.specs.Text.{entries}
 use Rattle.guest_gen.proofs.Feeds.{entries_added, entries_none}
 use Rattle.guest_gen.proofs.tables.+push_entries.Goals as goal
 

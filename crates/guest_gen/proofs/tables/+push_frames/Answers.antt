@@ -1,4 +1,4 @@
-use Rattle.std.proofs.Common.{sym, arith}
+use Rattle.std.proofs.Common.{arith}
 use Rattle.std.specs.Prelude.{string_bytes}
 use Rattle.guest_gen.proofs.Feeds.{frames_added, frames_none}
 use Rattle.guest_gen.proofs.tables.+push_frames.Goals as goal

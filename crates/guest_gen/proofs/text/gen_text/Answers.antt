@@ -1,6 +1,5 @@
 use Rattle.std.proofs.Common.{ap}
 use Rattle.std.specs.Prelude.{string_bytes}
-use Rattle.guest_gen.specs.Text.{gen_text}
 use Rattle.guest_gen.proofs.Feeds.{text_made}
 use Rattle.guest_gen.proofs.text.gen_text.Goals as goal
 

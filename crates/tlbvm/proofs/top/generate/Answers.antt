@@ -1,5 +1,5 @@
 -- The text was made, and was written whole or was cut short.
-use Rattle.std.proofs.Common.{inl, inr, List, ℕ, refl, subst}
+use Rattle.std.proofs.Common.{inr, List, ℕ, refl, subst}
 use Rattle.guest_gen.specs.Text.{gen_text}
 use Rattle.tlbvm.specs.Options.{Gen}
 use Rattle.tlbvm.specs.Intake.{Makes}
@@ -15,8 +15,11 @@ returns-in-Ok-write_made-clause-answered g c = λ names log nothing.
       out = written_of g.O.Sink.taken g.O.Sink.faults c.args.out.now c.write_made.new.out;
       log = log;
     } in
-    inr (refl, made_whole call c.in-Ok.text.items (record { work = Makes (gen_text c.args.number); came = refl; is_due = c.in-Ok.ensures })
-        (subst (λ (text : List ℕ). Gets call.out text) c.as_slice.ensures.value c.in-Ok-write_made.ensures.ok) nothing)
+    inr (
+      refl,
+      made_whole call c.in-Ok.text.items (record { work = Makes (gen_text c.args.number); came = refl; is_due = c.in-Ok.ensures })
+          (subst (λ (text : List ℕ). Gets call.out text) c.as_slice.ensures.value c.in-Ok-write_made.ensures.ok) nothing,
+    )
 
 pub returns-in-Ok-clause-answered : goal.returns-in-Ok-clause-answered
 returns-in-Ok-clause-answered g c = λ names log nothing.
@@ -27,4 +30,4 @@ returns-in-Ok-clause-answered g c = λ names log nothing.
       log = log;
     } in
     inr (made_short call c.in-Ok.text.items (record { work = Makes (gen_text c.args.number); came = refl; is_due = c.in-Ok.ensures })
-        (subst (λ (text : List ℕ). GetsPart call.out text) c.as_slice.ensures.value c.in-Err-write_made.ensures.err) nothing)
+    (subst (λ (text : List ℕ). GetsPart call.out text) c.as_slice.ensures.value c.in-Err-write_made.ensures.err) nothing)
