@@ -1,6 +1,6 @@
 -- The pages of an access in its hart's log.
-use Rattle.std.proofs.Common.{◌≡◌, ℕ, ◌+◌, ◌*◌, ◌/◌, ◌%◌, ◌<◌, ◌≤◌, ◌^◌, Bool, true, false, true≢false, List, ◌++◌, Option, Some, None, Result, Ok, Err, refl, sym, ap, subst, ◌∙◌, arith}
-use Rattle.std.specs.Prelude.{◌-◌, nat_le, if◌then◌else◌, IsTrue}
+use Rattle.std.proofs.Common.{◌≡◌, ℕ, ◌+◌, ◌%◌, ◌<◌, ◌≤◌, ◌^◌, Bool, true, false, true≢false, Some, None, Result, Ok, Err, refl, sym, ap, subst, ◌∙◌, arith}
+use Rattle.std.specs.Prelude.{nat_le, if◌then◌else◌, IsTrue}
 use Rattle.rv64_priv.specs.State.{Arch}
 use Rattle.rv64_priv.specs.Csr.{regime}
 use Rattle.rv64_priv.specs.Trap.{access_fault}
@@ -12,7 +12,7 @@ use Rattle.machine_model.specs.Access.{Reach, InRam, OnDevice, Unreached, Spot, 
 use Rattle.machine_model.specs.Memory.{One, Two}
 use Rattle.machine_model.specs.Own.{Own}
 use Rattle.machine_model.specs.State.{Setup}
-use Rattle.guest_ram.specs.Ports.{Shown, Machine, layout_of}
+use Rattle.guest_ram.specs.Ports.{Shown, Machine}
 use Rattle.guest_ram.proofs.Moves.{machine_goes}
 use Rattle.kept_fills.specs.Beside.{IsBeside}
 use Rattle.tlb_entry.specs.declared.books.Book.{Book}
@@ -22,7 +22,7 @@ use Rattle.tlb_fill.specs.declared.translation.Translated.TheVariants as gives
 use Rattle.turn_pieces.specs.Log.{Log}
 use Rattle.turn_pieces.specs.KeptWalks.{flushes_in}
 use Rattle.turn_pieces.specs.Owed.{nothing, owed}
-use Rattle.turn_pieces.specs.Right.{AreSeen, IsSeen}
+use Rattle.turn_pieces.specs.Right.{AreSeen}
 use Rattle.turn_pieces.specs.Grows.{Grows}
 use Rattle.turn_pieces.specs.Writers.{quietly}
 use Rattle.turn_pieces.proofs.Writers.{grows_then, seen_quietly}
@@ -30,13 +30,13 @@ use Rattle.guest_access.specs.declared.outcomes.Got.{Got}
 use Rattle.guest_access.specs.declared.outcomes.Got.TheVariants as gets
 use Rattle.guest_access.specs.declared.reaching.Place.{Place}
 use Rattle.guest_access.specs.declared.reaching.Place.TheVariants as at
-use Rattle.guest_access.specs.Reaching.{HasReached, KnowsFills, Translates, by_one, by_two, first_reached, over_from, second_reached}
+use Rattle.guest_access.specs.Reaching.{HasReached, Translates, by_one, by_two, first_reached, over_from, second_reached}
 use Rattle.guest_access.proofs.Arms.{ArePlaced, all_placed, goes_over}
 use Rattle.access_pieces.specs.Serving.{Tells}
 use Rattle.guest_access.proofs.Fills.{IsPlaced}
 use Rattle.access_pieces.proofs.Sections.{AreApart, first_apart, second_apart}
-use Rattle.access_pieces.proofs.Led.{Led, led}
-use Rattle.access_pieces.proofs.Spots.{IsLed, LeadsTo, spot}
+use Rattle.access_pieces.proofs.Led.{led}
+use Rattle.access_pieces.proofs.Spots.{IsLed, spot}
 
 -- the bytes were reached, or there was a fault
 abbrev pub IsReached : Result Place Got → Type 0

@@ -1,6 +1,6 @@
 -- Atomic accesses in their hart's log.
-use Rattle.std.proofs.Common.{◌≡◌, ◌≢◌, ℕ, ◌+◌, ◌*◌, ◌/◌, ◌%◌, ◌<◌, ◌≤◌, ◌^◌, Bool, true, false, true≢false, List, [], ◌∷◌, Option, Some, None, Result, Ok, Err, refl, sym, ap, subst, ◌∙◌, arith, le-leb}
-use Rattle.std.specs.Prelude.{◌-◌, nat_le, if◌then◌else◌, IsTrue}
+use Rattle.std.proofs.Common.{◌≡◌, ℕ, ◌+◌, ◌%◌, ◌<◌, ◌≤◌, ◌^◌, Bool, true, false, true≢false, Option, Some, None, Ok, Err, sym, ap, subst, ◌∙◌, arith, le-leb}
+use Rattle.std.specs.Prelude.{if◌then◌else◌}
 use Rattle.rv64_priv.specs.State.{Arch}
 use Rattle.rv64_priv.specs.Csr.{regime}
 use Rattle.rv64_priv.specs.Trap.{access_fault}
@@ -8,9 +8,8 @@ use Rattle.rv64_priv.specs.declared.state.Kind.{Kind}
 use Rattle.rv64_priv.specs.Walk.{Walked}
 use Rattle.rv64_exec.specs.declared.needs.Need.{Need}
 use Rattle.rv64_exec.specs.declared.needs.Answer.{Answer}
-use Rattle.step_laws.specs.declared.words.Layout.{Layout}
 use Rattle.step_laws.specs.Words.{ram_word}
-use Rattle.machine_model.specs.Access.{Reach, InRam, OnDevice, Unreached, Spot, AtRam, AtDevice, Faults, crosses_page, is_at_ram, one_page, reach, second_va, spot_of, two_pages}
+use Rattle.machine_model.specs.Access.{Reach, InRam, OnDevice, Unreached, Spot, AtRam, AtDevice, Faults, crosses_page, one_page, reach, second_va, spot_of, two_pages}
 use Rattle.machine_model.specs.Event.{Outcome, only}
 use Rattle.machine_model.specs.Lawful.{flushing}
 use Rattle.machine_model.specs.Memory.{Memory, One, Two}
@@ -24,19 +23,16 @@ use Rattle.tlb_entry.specs.declared.books.Book.{Book}
 use Rattle.tlb_fill.specs.declared.translation.Translated.TheVariants as gives
 use Rattle.turn_pieces.specs.Log.{Log}
 use Rattle.turn_pieces.specs.Owed.{nothing, owed}
-use Rattle.turn_pieces.specs.Right.{AreSeen, IsSeen, MayBe, SeenFor}
-use Rattle.turn_pieces.specs.Grows.{Grows, stays, Ends}
+use Rattle.turn_pieces.specs.Right.{IsSeen, SeenFor}
+use Rattle.turn_pieces.specs.Grows.{Grows, Ends}
 use Rattle.turn_pieces.specs.Writers.{quietly}
 use Rattle.turn_pieces.proofs.Writers.{ends_then}
 use Rattle.guest_access.specs.declared.outcomes.Got.{Got}
-use Rattle.guest_access.specs.declared.outcomes.Got.TheVariants as gets
 use Rattle.guest_access.specs.Atomics.{HasPlaced, at_none, faults, in_ram, is_busy, misaligned, on_device}
-use Rattle.guest_access.specs.Reaching.{Translates}
 use Rattle.access_pieces.specs.Serving.{Served, Tells, Wants}
 use Rattle.access_pieces.proofs.Arrived.{placed_led}
 use Rattle.access_pieces.proofs.Executing.{quiet_exec}
-use Rattle.access_pieces.proofs.Led.{Led, led}
-use Rattle.access_pieces.proofs.Spots.{spot}
+use Rattle.access_pieces.proofs.Led.{led}
 
 -- an atomic access of the hart with these registers: by what the reference machine does where its bytes are reached
 pub record Atomic (c : Arch) (need : Need) (kind : Kind) (va : ℕ) (wide : Bool) (outcome : Memory → Reach → Outcome) : Type 0 where

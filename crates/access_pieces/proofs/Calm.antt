@@ -1,6 +1,6 @@
 -- The steps of a translation need no event.
-use Rattle.std.proofs.Common.{◌≡◌, ℕ, zero, suc, ◌+◌, ◌*◌, ◌/◌, ◌%◌, ◌<◌, ◌≤◌, ◌^◌, List, [], ◌∷◌, ◌++◌, refl, sym, ap, subst, ◌∙◌, append_assoc, arith, inl, inr}
-use Rattle.std.specs.Prelude.{◌-◌, ◌⊎◌}
+use Rattle.std.proofs.Common.{◌≡◌, ℕ, zero, suc, ◌+◌, ◌/◌, ◌%◌, ◌<◌, ◌≤◌, ◌^◌, List, [], ◌∷◌, ◌++◌, refl, sym, ap, subst, ◌∙◌, append_assoc, arith, inl, inr}
+use Rattle.std.specs.Prelude.{◌-◌}
 use Rattle.rv64_priv.specs.declared.state.Kind.{Kind}
 use Rattle.rv64_priv.specs.declared.state.Kind.TheVariants as kinds
 use Rattle.rv64_priv.specs.declared.state.Regime.{Regime}
@@ -11,7 +11,7 @@ use Rattle.step_laws.specs.declared.steps.Step.{Step}
 use Rattle.step_laws.specs.declared.steps.WordOp.{WordOp}
 use Rattle.step_laws.specs.declared.steps.WordOp.TheVariants.{Load, Store, And, Or, Exchange}
 use Rattle.step_laws.specs.Fields.{IsSize}
-use Rattle.step_laws.specs.Map.{Word, Lock, Tlb, Dirty, Ram, name_of, number_of}
+use Rattle.step_laws.specs.Map.{Word, Lock, Tlb, Dirty, name_of, number_of}
 use Rattle.step_laws.specs.Words.{most_harts, all_slots}
 use Rattle.step_laws.proofs.Numbered.{named_tlb}
 use Rattle.guest_ram.specs.Plays.{step_of}
@@ -122,7 +122,7 @@ put_calmly j e p q hart few x =
     let h = stored g j Code e.code in
     let k = stored h j Write e.write in
     let fills : Calmly b k = calmly_then b h k (calmly_then b g h (calmly_then b d g (calmly_then b c d (store_calmly b j Write 1 own few) (store_calmly c j Page e.page own few)) (store_calmly d j Read e.read own few))
-        (store_calmly g j Code e.code own few)) (store_calmly h j Write e.write own few) in
+    (store_calmly g j Code e.code own few)) (store_calmly h j Write e.write own few) in
     calmly_then p b q looked (subst (Calmly b) (sym x.filled) fills)
 
 settled_calmly : (j address : ℕ) (p q : Shown) → HasSettled j address p q → Calmly p q

@@ -1,8 +1,6 @@
 -- An execution that writes nothing, placed behind a step that needs no event; and loads of RAM.
-use Rattle.std.proofs.Common.{◌≡◌, ◌≢◌, ℕ, ◌+◌, ◌*◌, ◌/◌, ◌%◌, ◌<◌, ◌≤◌, ◌^◌, Bool, false, List, [], ◌∷◌, ◌++◌, Option, Some, None, refl, sym, ap, subst, ◌∙◌, arith}
-use Rattle.std.specs.Prelude.{◌-◌, IsSome}
+use Rattle.std.proofs.Common.{◌≡◌, ◌≢◌, ℕ, ◌<◌, [], ◌∷◌, None, refl, sym, ap, subst, ◌∙◌, arith}
 use Rattle.rv64_priv.specs.State.{Arch}
-use Rattle.rv64_priv.specs.declared.state.Kind.{Kind}
 use Rattle.rv64_priv.specs.declared.state.Regime.{Regime}
 use Rattle.rv64_priv.specs.Walk.{Walked}
 use Rattle.rv64_exec.specs.declared.needs.Need.{Need}
@@ -10,32 +8,28 @@ use Rattle.rv64_exec.specs.declared.needs.Answer.{Answer}
 use Rattle.step_laws.specs.declared.steps.Step.{Step}
 use Rattle.step_laws.specs.declared.steps.WordOp.{WordOp}
 use Rattle.step_laws.specs.declared.steps.WordOp.TheVariants.{Load, Store, Exchange}
-use Rattle.step_laws.specs.Map.{Ram, name_of}
+use Rattle.step_laws.specs.Map.{name_of}
 use Rattle.step_laws.specs.Words.{ram_word}
-use Rattle.machine_model.specs.Event.{Event, Exec, Outcome, did_of, only}
-use Rattle.machine_model.specs.Lawful.{Flushing, flushing}
-use Rattle.machine_model.specs.Own.{Own, own_executed, own_next}
+use Rattle.machine_model.specs.Event.{Exec, did_of, only}
+use Rattle.machine_model.specs.Lawful.{flushing}
+use Rattle.machine_model.specs.Own.{Own, own_executed}
 use Rattle.machine_model.specs.Perform.{Surroundings, perform}
 use Rattle.machine_model.specs.State.{Setup}
-use Rattle.machine_model.specs.Walks.{access_of, need_held}
+use Rattle.machine_model.specs.Walks.{access_of}
 use Rattle.guest_ram.specs.Plays.{step_of}
 use Rattle.guest_ram.specs.Ports.{Shown}
 use Rattle.guest_ram.specs.Areas.{IsOfRam}
-use Rattle.walk_laws.specs.KeptWalks.{Item, made_all}
 use Rattle.tlb_entry.specs.declared.books.Book.{Book}
-use Rattle.kept_fills.specs.Fills.{Fill, GoesWithFills}
 use Rattle.kept_fills.proofs.Staying.{fills_stay}
 use Rattle.tlb_fill.proofs.Marking.{same_goes}
 use Rattle.turn_pieces.specs.Doing.{IsCalm, IsQuiet}
 use Rattle.turn_pieces.specs.Shared.{IsShared}
 use Rattle.turn_pieces.specs.Log.{made, did, Log}
-use Rattle.turn_pieces.specs.Kept.{own_part}
 use Rattle.turn_pieces.specs.KeptWalks.{flushes_in}
-use Rattle.turn_pieces.specs.Owed.{Owed, nothing, owed, unstored, unstored_did, books, PaysFor}
+use Rattle.turn_pieces.specs.Owed.{nothing, owed, unstored, unstored_did, books, PaysFor}
 use Rattle.turn_pieces.specs.Right.{AreFenced, IsExec, IsFit, MayBe, SeenFor}
 use Rattle.turn_pieces.specs.Grows.{Grows, stays, does, Ends}
-use Rattle.turn_pieces.specs.Writers as writers
-use Rattle.turn_pieces.specs.Writers.{IsInner, IsPlain, QuietBy, quietly}
+use Rattle.turn_pieces.specs.Writers.{IsInner, IsPlain, QuietBy}
 use Rattle.turn_pieces.proofs.Writers.{calm_owes, places_did, quietly_grows, quietly_tells, tells_did}
 use Rattle.guest_access.specs.Stepping.{HasStepped}
 use Rattle.guest_access.proofs.Areas.{ram_off}

@@ -1,5 +1,5 @@
 -- A translation in its hart's log: quiet steps that show a walk.
-use Rattle.std.proofs.Common.{◌≡◌, ℕ, ◌+◌, ◌<◌, ◌≤◌, List, [], ◌∷◌, ◌++◌, length, refl, sym, ap, subst, ◌∙◌, arith}
+use Rattle.std.proofs.Common.{◌≡◌, ℕ, List, [], ◌∷◌, ◌++◌, length, sym, ap, subst, ◌∙◌, arith}
 use Rattle.std.proofs.lemmas.List.{append_cancel_right}
 use Rattle.rv64_priv.specs.State.{Arch}
 use Rattle.rv64_priv.specs.Csr.{regime}
@@ -13,7 +13,7 @@ use Rattle.guest_ram.specs.Ports.{Shown}
 use Rattle.walk_laws.specs.KeptWalks.{Item, made_all}
 use Rattle.tlb_entry.specs.declared.books.Book.{Book}
 use Rattle.kept_fills.specs.Beside.{IsBeside}
-use Rattle.kept_fills.specs.Fills.{Fill, GoesWithFills}
+use Rattle.kept_fills.specs.Fills.{GoesWithFills}
 use Rattle.tlb_fill.specs.Answered.{IsAllowed}
 use Rattle.tlb_fill.specs.declared.translation.Translated.{Translated}
 use Rattle.turn_pieces.specs.Log.{Log}
@@ -24,7 +24,7 @@ use Rattle.turn_pieces.specs.Writers.{AreCalm, IsInner, QuietBy, quietly}
 use Rattle.turn_pieces.proofs.Writers.{calm_owes, quietly_grows, quietly_tells}
 use Rattle.guest_access.specs.Reaching.{Translates}
 use Rattle.access_pieces.specs.Serving.{Tells, view}
-use Rattle.access_pieces.proofs.Calm.{Calmly, IsStepped, Stepped, translated_calmly}
+use Rattle.access_pieces.proofs.Calm.{Calmly, IsStepped, translated_calmly}
 use Rattle.access_pieces.proofs.Spots.{IsLed, LeadsTo, flushes_quietly, leads, spot}
 
 calm_quiet : (p q : Shown) (k : Calmly p q) → QuietBy IsInner (length k.added) (view p) (view q)

@@ -8,3 +8,7 @@ pub mod Loads
 pub mod Writing
 pub mod Atomic
 pub mod Reserved
+pub mod Amos
+pub mod StoresInRam
+pub mod StoresOnDevices
+pub mod Stores

@@ -1,12 +1,11 @@
 -- Loads are served.
-use Rattle.std.proofs.Common.{◌≡◌, ◌≢◌, ne_eqb, eq-eqb, ℕ, ◌+◌, ◌*◌, ◌/◌, ◌%◌, ◌<◌, ◌≤◌, ◌^◌, Bool, true, false, List, [], ◌∷◌, Option, Some, None, Result, Ok, Err, refl, sym, ap, subst, ◌∙◌, arith}
-use Rattle.std.specs.Prelude.{◌==◌, nat_le, if◌then◌else◌, IsTrue}
+use Rattle.std.proofs.Common.{◌≡◌, ◌≢◌, ne_eqb, eq-eqb, ℕ, ◌+◌, ◌*◌, ◌%◌, ◌<◌, ◌^◌, Bool, true, false, [], ◌∷◌, Option, Some, None, Result, Ok, Err, refl, sym, ap, subst, ◌∙◌}
+use Rattle.std.specs.Prelude.{nat_le, if◌then◌else◌}
 use Rattle.rv64_priv.specs.State.{Arch}
 use Rattle.rv64_priv.specs.Csr.{regime}
 use Rattle.rv64_priv.specs.Trap.{access_fault}
 use Rattle.rv64_priv.specs.declared.state.Kind.{Kind}
 use Rattle.rv64_priv.specs.Walk.{Walked}
-use Rattle.rv64_exec.specs.Widths.{is_width}
 use Rattle.rv64_exec.specs.declared.needs.Need.{Need}
 use Rattle.rv64_exec.specs.declared.needs.Answer.{Answer}
 use Rattle.step_laws.specs.Words.{ram_word}
@@ -16,33 +15,33 @@ use Rattle.step_laws.specs.declared.steps.WordOp.TheVariants.{Load}
 use Rattle.tlb_fill.specs.declared.translation.Translated.{Translated}
 use Rattle.tlb_fill.specs.declared.translation.Translated.TheVariants as gives
 use Rattle.turn_pieces.specs.Right.{AreSeen, MayBe}
-use Rattle.machine_model.specs.Access.{Reach, InRam, OnDevice, Unreached, crosses_page, reach, second_va}
+use Rattle.machine_model.specs.Access.{Reach, crosses_page, reach, second_va}
 use Rattle.machine_model.specs.Device.{device_value}
-use Rattle.machine_model.specs.Event.{Outcome, only}
+use Rattle.machine_model.specs.Event.{only}
 use Rattle.machine_model.specs.Lawful.{flushing}
 use Rattle.machine_model.specs.Memory.{Memory, number_in}
 use Rattle.machine_model.specs.Own.{Own, own_executed}
 use Rattle.machine_model.specs.Perform.{Surroundings, extended, load_outcome, device_load_outcome, perform}
 use Rattle.machine_model.specs.State.{Setup}
-use Rattle.guest_ram.specs.Ports.{Shown, layout_of}
+use Rattle.guest_ram.specs.Ports.{Shown}
 use Rattle.tlb_entry.specs.declared.books.Book.{Book}
 use Rattle.step_laws.specs.Sections.{IsInSection}
 use Rattle.turn_pieces.specs.Folds.{known_word_next}
 use Rattle.turn_pieces.specs.Kept.{known_word}
 use Rattle.turn_pieces.specs.Shared.{IsShared}
 use Rattle.turn_pieces.specs.Log.{made, Log}
-use Rattle.turn_pieces.specs.Grows.{Grows, Ends}
+use Rattle.turn_pieces.specs.Grows.{Ends}
 use Rattle.turn_pieces.proofs.Writers.{ends_then, grows_then, seen_quietly}
 use Rattle.guest_access.specs.declared.outcomes.Got.{Got}
 use Rattle.guest_access.specs.declared.outcomes.Got.TheVariants as gets
 use Rattle.guest_access.specs.declared.reaching.Place.{Place}
 use Rattle.guest_access.specs.declared.reaching.Place.TheVariants as at
-use Rattle.guest_access.specs.Loading.{HasLoaded, gives_number, gives_register, in_word, on_device, over_words, unreached}
+use Rattle.guest_access.specs.Loading.{gives_register, in_word, on_device, over_words, unreached}
 use Rattle.guest_access.specs.Reaching.{CanAccess, HasReached, by_one, by_two, first_reached, second_reached}
 use Rattle.guest_access.specs.Stepping.{HasStepped}
 use Rattle.access_pieces.specs.Laws.{LoadsServe}
 use Rattle.access_pieces.specs.Serving.{Served, Tells, Wants}
-use Rattle.access_pieces.proofs.Arrived.{Arrived, IsReached, Shown2, arrived, reached_as}
+use Rattle.access_pieces.proofs.Arrived.{Arrived, IsReached, arrived, reached_as}
 use Rattle.access_pieces.proofs.Sections.{InSection, section_reached, section_stepped, words_apart, words_sectioned}
 use Rattle.access_pieces.proofs.Executing.{held_here, load_of, loaded_in, quiet_exec}
 
@@ -105,8 +104,8 @@ module _ (u : Setup) (a : ℕ) (c : Arch) (o : Own) (m next q : Shown) (b : Book
   unfolding both_late
   both_held w t section may = (
     may.section (subst (λ r. IsInSection u.layout a r) (sym t.tells.stands.is) (subst (λ (n : ℕ). IsInSection u.layout n q.own.steps) (sym t.tells.stands.actor)
-    (subst (λ (y : Layout). IsInSection y q.own.actor q.own.steps) (sym t.tells.stands.layout) section)))
-    (ram_word first) low (subst IsShared (sym x.name) tt) knows_first,
+        (subst (λ (y : Layout). IsInSection y q.own.actor q.own.steps) (sym t.tells.stands.layout) section)))
+        (ram_word first) low (subst IsShared (sym x.name) tt) knows_first,
     held_here u a (made (load_of m first low) ∷ l) next q second high w y may,
   )
 
@@ -139,12 +138,11 @@ device_served o p m b b' c va width pa sign u a l None is can wants t ar =
     answered o p m b b' c va width sign (Ok (at.Device pa)) (Answer.Fault (access_fault Kind.Load) va) u a l can wants t ar tt (λ memory. ap (device_load_outcome va width sign) (sym is))
 
 -- what ends an access before its bytes are reached is no answer
-IsEnd : Result Place Got → Type 0
+abbrev pub IsEnd : Result Place Got → Type 0
 IsEnd (Err (gets.Done answer)) = ⊥
 IsEnd x = Unit {0}
 
 first_ends : (kind : Kind) (va width : ℕ) (section : Bool) (t : Translated) → IsEnd (first_reached kind va width section t)
-unfolding IsEnd
 first_ends kind va width section (gives.Ram pa) = by (nat_le (pa % 8 + width) 8) section
   where
     by : (le s : Bool) → IsEnd (if le then Ok (at.Word pa) else if s then Ok (at.Words pa (pa + 8)) else Err gets.NeedsSection)
@@ -160,20 +158,18 @@ first_ends kind va width section (gives.Fault cause tval) = tt
 first_ends kind va width section (gives.Busy busy) = tt
 
 second_ends : (kind : Kind) (next first : ℕ) (section : Bool) (t : Translated) → IsEnd (second_reached kind next first section t)
-unfolding IsEnd
 second_ends kind next first true (gives.Ram pa) = tt
 second_ends kind next first false (gives.Ram pa) = tt
 second_ends kind next first section (gives.Device pa) = tt
 second_ends kind next first section (gives.Fault cause tval) = tt
 second_ends kind next first section (gives.Busy busy) = tt
 
-reach_ends : (p m : Shown) (b b' : Book) (c : Arch) (va width : ℕ) (section : Bool) (x : Result Place Got) → HasReached p m b b' (regime c) Kind.Load va width section x → IsEnd x
-reach_ends p m b b' c va width section x (by_one t call none e) = subst IsEnd (sym e) (first_ends Kind.Load va width section t)
-reach_ends p m b b' c va width section x (by_two mid between t first call some y) = subst IsEnd (sym y.result_is) (second_ends Kind.Load (second_va va) first section y.found)
+pub reach_ends : (p m : Shown) (b b' : Book) (c : Arch) (kind : Kind) (va width : ℕ) (section : Bool) (x : Result Place Got) → HasReached p m b b' (regime c) kind va width section x → IsEnd x
+reach_ends p m b b' c kind va width section x (by_one t call none e) = subst IsEnd (sym e) (first_ends kind va width section t)
+reach_ends p m b b' c kind va width section x (by_two mid between t first call some y) = subst IsEnd (sym y.result_is) (second_ends kind (second_va va) first section y.found)
 
 unreached_served : (o : Own) (p m : Shown) (b b' : Book) (c : Arch) (va width : ℕ) (sign : Bool) (got : Got) (u : Setup) (a : ℕ) (l : Log) → CanAccess b p → Wants o c (Need.Load va width sign) → Tells o p b (regime c) u a l
     → IsEnd (Err got) → Arrived o m b' c Kind.Load va width (Err got) u a l → Ends u a l (Served o got m b' (regime c) u a)
-unfolding IsEnd
 unreached_served o p m b b' c va width sign (gets.Done answer) u a l can wants t k ar = absurd k
 unreached_served o p m b b' c va width sign (gets.Fault cause tval) u a l can wants t k ar = answered o p m b b' c va width sign (Err (gets.Fault cause tval)) (Answer.Fault cause tval) u a l can wants t ar tt (λ memory. refl)
 unreached_served o p m b b' c va width sign (gets.Lost word seen found) u a l can wants t k ar = record { late = ar.late; grows = ar.grows; holds = ar.tells }
@@ -192,4 +188,4 @@ loads_serve p q b b' c va width sign section got w can told (on_device {pa} reac
     subst (λ (g : Got). Ends u a l (Served o g q b' (regime c) u a)) (sym e)
     (device_served o p q b b' c va width pa sign u a l (device_value pa width) refl can wants t (arrived o p q b b' c Kind.Load va width section (Ok (at.Device pa)) u a l w can.beside t reached))
 loads_serve p q b b' c va width sign section got w can told (unreached reached) = λ o wants u a l rests. let t = rests.tells in
-    unreached_served o p q b b' c va width sign got u a l can wants t (reach_ends p q b b' c va width section (Err got) reached) (arrived o p q b b' c Kind.Load va width section (Err got) u a l w can.beside t reached)
+    unreached_served o p q b b' c va width sign got u a l can wants t (reach_ends p q b b' c Kind.Load va width section (Err got) reached) (arrived o p q b b' c Kind.Load va width section (Err got) u a l w can.beside t reached)

@@ -1,32 +1,28 @@
 -- Load-reserved and store-conditional are served.
-use Rattle.std.proofs.Common.{◌≡◌, ◌≢◌, ℕ, ◌+◌, ◌*◌, ◌/◌, ◌%◌, ◌<◌, ◌≤◌, ◌^◌, Bool, true, false, List, [], ◌∷◌, Option, Some, None, Ok, Err, refl, sym, ap, subst, ◌∙◌, arith, eqb-true, eq-eqb, ne_eqb, true≢false}
-use Rattle.std.specs.Prelude.{◌-◌, ◌==◌, ◌&&◌, if◌then◌else◌}
+use Rattle.std.proofs.Common.{◌≡◌, ◌≢◌, ℕ, ◌%◌, ◌≤◌, ◌^◌, Bool, true, false, [], ◌∷◌, Option, Some, None, refl, sym, ap, subst, ◌∙◌, arith, eqb-true, eq-eqb, ne_eqb, true≢false}
+use Rattle.std.specs.Prelude.{◌==◌, ◌&&◌, if◌then◌else◌}
 use Rattle.rv64_priv.specs.State.{Arch}
 use Rattle.rv64_priv.specs.Csr.{regime}
 use Rattle.rv64_priv.specs.declared.state.Hold.{Hold}
 use Rattle.rv64_priv.specs.declared.state.Kind.{Kind}
-use Rattle.rv64_priv.specs.Walk.{Walked}
 use Rattle.rv64_exec.specs.declared.needs.Need.{Need}
 use Rattle.rv64_exec.specs.declared.needs.Answer.{Answer}
-use Rattle.step_laws.specs.declared.steps.Step.{Step}
-use Rattle.step_laws.specs.declared.steps.WordOp.TheVariants.{Load, Store, Exchange}
+use Rattle.step_laws.specs.declared.steps.WordOp.TheVariants.{Load, Exchange}
 use Rattle.step_laws.specs.Words.{ram_word}
 use Rattle.machine_model.specs.Access.{Reach, InRam}
 use Rattle.machine_model.specs.Event.{Outcome, only}
 use Rattle.machine_model.specs.Lawful.{flushing}
-use Rattle.machine_model.specs.Memory.{Memory, Span, One, number_in, read, replaced}
+use Rattle.machine_model.specs.Memory.{Memory, One, replaced}
 use Rattle.machine_model.specs.Own.{Own, own_executed}
-use Rattle.machine_model.specs.Perform.{Surroundings, extended, hold_stands, lr_outcome, perform, same_width, sc_outcome, span_address, width_of}
+use Rattle.machine_model.specs.Perform.{extended, hold_stands, lr_outcome, perform, same_width, sc_outcome, span_address, width_of}
 use Rattle.machine_model.specs.State.{Setup}
 use Rattle.guest_ram.specs.Ports.{Shown}
 use Rattle.tlb_entry.specs.declared.books.Book.{Book}
 use Rattle.turn_pieces.specs.Log.{made, Log}
-use Rattle.turn_pieces.specs.Right.{MayBe}
 use Rattle.turn_pieces.specs.Grows.{Ends}
 use Rattle.turn_pieces.proofs.Writers.{ends_then, grows_then, seen_quietly}
 use Rattle.guest_access.specs.declared.outcomes.Got.{Got}
-use Rattle.guest_access.specs.declared.outcomes.Got.TheVariants as gets
-use Rattle.guest_access.specs.Atomics.{HasConditional, HasReserved, held_word, old_number, on_none, on_word, with_hold, without_hold}
+use Rattle.guest_access.specs.Atomics.{held_word, old_number, on_none, on_word, with_hold, without_hold}
 use Rattle.guest_access.specs.Reaching.{CanAccess}
 use Rattle.guest_access.specs.Stepping.{HasStepped}
 use Rattle.access_pieces.specs.Laws.{ConditionalsServe, ReservesServe}

@@ -1,6 +1,6 @@
 -- An access over two words: its hart is in its section, and the words are two.
-use Rattle.std.proofs.Common.{◌≡◌, ◌≢◌, ℕ, ◌+◌, ◌*◌, ◌/◌, ◌%◌, ◌<◌, ◌≤◌, ◌^◌, Bool, true, false, List, Option, Some, None, Result, Ok, Err, refl, sym, ap, subst, ◌∙◌, arith}
-use Rattle.std.specs.Prelude.{◌-◌, nat_le, if◌then◌else◌, IsTrue}
+use Rattle.std.proofs.Common.{◌≡◌, ◌≢◌, ℕ, ◌+◌, ◌%◌, ◌<◌, ◌≤◌, ◌^◌, Bool, true, false, Result, Ok, Err, refl, sym, subst, ◌∙◌, arith, leb-true}
+use Rattle.std.specs.Prelude.{nat_le, if◌then◌else◌, IsTrue}
 use Rattle.rv64_priv.specs.State.{Arch}
 use Rattle.rv64_priv.specs.Csr.{regime}
 use Rattle.rv64_priv.specs.Trap.{access_fault}
@@ -10,8 +10,6 @@ use Rattle.step_laws.specs.Map.{Word}
 use Rattle.step_laws.specs.Sections.{IsInSection}
 use Rattle.step_laws.specs.Words.{ram_word}
 use Rattle.machine_model.specs.Access.{crosses_page, second_va}
-use Rattle.machine_model.specs.Own.{Own}
-use Rattle.machine_model.specs.State.{Setup}
 use Rattle.guest_ram.specs.Areas.{IsAside, IsOfRam}
 use Rattle.guest_ram.specs.Ports.{Shown, GoesBy, layout_of}
 use Rattle.guest_ram.proofs.AreaLemmas.{inner_aside, ram_inner}
@@ -20,12 +18,11 @@ use Rattle.tlb_entry.specs.declared.books.Book.{Book}
 use Rattle.tlb_fill.specs.Stepping.{IsOfFill}
 use Rattle.tlb_fill.specs.declared.translation.Translated.{Translated}
 use Rattle.tlb_fill.specs.declared.translation.Translated.TheVariants as gives
-use Rattle.turn_pieces.specs.Log.{Log}
 use Rattle.guest_access.specs.declared.outcomes.Got.{Got}
 use Rattle.guest_access.specs.declared.outcomes.Got.TheVariants as gets
 use Rattle.guest_access.specs.declared.reaching.Place.{Place}
 use Rattle.guest_access.specs.declared.reaching.Place.TheVariants as at
-use Rattle.guest_access.specs.Reaching.{HasReached, by_one, by_two, first_reached, over_from, second_reached}
+use Rattle.guest_access.specs.Reaching.{HasReached, by_one, by_two, first_reached, second_reached}
 use Rattle.guest_access.specs.Stepping.{HasStepped}
 use Rattle.step_laws.specs.declared.steps.WordOp.{WordOp}
 use Rattle.guest_access.proofs.Areas.{fill_aside}
@@ -127,3 +124,37 @@ second_apart kind va width first section (gives.Busy busy) mid m w crosses x y =
 pub words_apart : (first second : ℕ) → AreApart (Ok (at.Words first second)) → ram_word first ≢ ram_word second
 unfolding AreApart
 words_apart first second k = k
+
+-- a word has all bytes of an access that leads to it alone
+abbrev IsWithin : (width : ℕ) → Result Place Got → Type 0
+IsWithin width (Ok (at.Word pa)) = pa % 8 + width ≤ 8
+IsWithin width x = Unit {0}
+
+first_within : (kind : Kind) (va width : ℕ) (section : Bool) (t : Translated) → IsWithin width (first_reached kind va width section t)
+first_within kind va width section (gives.Ram pa) = by (nat_le (pa % 8 + width) 8) section refl
+  where
+    by : (le s : Bool) → nat_le (pa % 8 + width) 8 ≡ le → IsWithin width (if le then Ok (at.Word pa) else if s then Ok (at.Words pa (pa + 8)) else Err gets.NeedsSection)
+    by true s e = leb-true (pa % 8 + width) 8 e
+    by false true e = tt
+    by false false e = tt
+first_within kind va width section (gives.Device pa) = by (crosses_page va width)
+  where
+    by : (x : Bool) → IsWithin width (if x then Err (gets.Fault (access_fault kind) va) else Ok (at.Device pa))
+    by true = tt
+    by false = tt
+first_within kind va width section (gives.Fault cause tval) = tt
+first_within kind va width section (gives.Busy busy) = tt
+
+second_within : (kind : Kind) (width next first : ℕ) (section : Bool) (t : Translated) → IsWithin width (second_reached kind next first section t)
+second_within kind width next first true (gives.Ram pa) = tt
+second_within kind width next first false (gives.Ram pa) = tt
+second_within kind width next first section (gives.Device pa) = tt
+second_within kind width next first section (gives.Fault cause tval) = tt
+second_within kind width next first section (gives.Busy busy) = tt
+
+reach_within : (p m : Shown) (b b' : Book) (c : Arch) (kind : Kind) (va width : ℕ) (section : Bool) (x : Result Place Got) → HasReached p m b b' (regime c) kind va width section x → IsWithin width x
+reach_within p m b b' c kind va width section x (by_one t call none e) = subst (IsWithin width) (sym e) (first_within kind va width section t)
+reach_within p m b b' c kind va width section x (by_two mid between t first call some y) = subst (IsWithin width) (sym y.result_is) (second_within kind width (second_va va) first section y.found)
+
+pub word_within : (p m : Shown) (b b' : Book) (c : Arch) (kind : Kind) (va width pa : ℕ) (section : Bool) → HasReached p m b b' (regime c) kind va width section (Ok (at.Word pa)) → pa % 8 + width ≤ 8
+word_within p m b b' c kind va width pa section k = reach_within p m b b' c kind va width section (Ok (at.Word pa)) k

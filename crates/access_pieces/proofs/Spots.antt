@@ -1,5 +1,5 @@
 -- What a log shows of the walks of an access.
-use Rattle.std.proofs.Common.{◌≡◌, ℕ, zero, suc, ◌+◌, ◌*◌, ◌/◌, ◌%◌, ◌<◌, ◌^◌, Bool, true, false, true≢false, List, [], ◌∷◌, ◌++◌, refl, sym, ap, subst, ◌∙◌, arith, inl, inr}
+use Rattle.std.proofs.Common.{◌≡◌, ℕ, zero, suc, ◌+◌, ◌*◌, ◌/◌, ◌%◌, ◌^◌, Bool, true, false, true≢false, List, [], ◌∷◌, ◌++◌, refl, sym, ap, subst, ◌∙◌, arith, inl, inr}
 use Rattle.std.specs.Prelude.{◌==◌, ◌||◌, not, if◌then◌else◌}
 use Rattle.rv64_priv.specs.State.{Arch}
 use Rattle.rv64_priv.specs.Csr.{regime}
@@ -14,7 +14,7 @@ use Rattle.machine_model.specs.Access.{Spot, AtRam, AtDevice, Faults, spot_at, s
 use Rattle.machine_model.specs.Event.{Event}
 use Rattle.machine_model.specs.Run.{renews}
 use Rattle.walk_laws.specs.WalkLoads.{Found, AreLoaded, reads_of}
-use Rattle.walk_laws.specs.KeptWalks.{Item, made, made_all, IsKept}
+use Rattle.walk_laws.specs.KeptWalks.{made, made_all, IsKept}
 use Rattle.tlb_fill.specs.Answered.{IsAllowed, IsLeafAt}
 use Rattle.tlb_fill.specs.Stepping.{IsCause, place_in}
 use Rattle.tlb_fill.specs.declared.translation.Translated.{Translated}

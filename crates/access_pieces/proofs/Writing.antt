@@ -1,43 +1,40 @@
 -- A word of RAM is written, and the execution that did it stands there.
-use Rattle.std.proofs.Common.{◌≡◌, ◌≢◌, ℕ, ◌+◌, ◌*◌, ◌/◌, ◌%◌, ◌<◌, ◌≤◌, ◌^◌, Bool, true, false, List, [], ◌∷◌, ◌++◌, Option, Some, None, refl, sym, ap, subst, ◌∙◌, arith, inl, inr, eq-eqb}
+use Rattle.std.proofs.Common.{◌≡◌, ℕ, ◌/◌, ◌<◌, ◌^◌, Bool, List, [], ◌∷◌, Some, None, refl, sym, ap, subst, ◌∙◌, inl, inr, eq-eqb}
 use prog.Atomic.{either}
-use Rattle.std.specs.Prelude.{◌-◌, ◌⊎◌, ◌==◌, if◌then◌else◌, IsSome}
+use Rattle.std.specs.Prelude.{◌-◌, ◌⊎◌, if◌then◌else◌}
 use Rattle.rv64_priv.specs.State.{Arch}
 use Rattle.rv64_priv.specs.declared.state.Regime.{Regime}
 use Rattle.rv64_priv.specs.Walk.{Walked}
 use Rattle.rv64_exec.specs.declared.needs.Need.{Need}
 use Rattle.rv64_exec.specs.declared.needs.Answer.{Answer}
-use Rattle.step_laws.specs.declared.steps.Step.{Step}
 use Rattle.step_laws.specs.declared.steps.WordOp.{WordOp}
-use Rattle.step_laws.specs.declared.steps.WordOp.TheVariants.{Load, Store, Swap, Add, And, Or, Xor, Min, Max, Exchange}
-use Rattle.step_laws.specs.Map.{Word, Ram, name_of}
+use Rattle.step_laws.specs.declared.steps.WordOp.TheVariants.{Store, Exchange}
+use Rattle.step_laws.specs.Map.{Ram}
 use Rattle.step_laws.specs.Steps.{new_of}
 use Rattle.step_laws.specs.Words.{ram_word}
-use Rattle.machine_model.specs.Event.{Event, Exec, Outcome, did_of, only}
+use Rattle.machine_model.specs.Event.{Exec, Outcome, did_of, only}
 use Rattle.machine_model.specs.Lawful.{flushing}
 use Rattle.machine_model.specs.Memory.{write_of}
 use Rattle.machine_model.specs.Own.{Own, own_executed}
 use Rattle.machine_model.specs.Perform.{Surroundings, perform}
 use Rattle.machine_model.specs.State.{Setup}
 use Rattle.machine_model.specs.Walks.{access_of}
-use Rattle.guest_ram.specs.Plays.{step_of}
 use Rattle.guest_ram.specs.Ports.{Shown}
 use Rattle.guest_ram.specs.Areas.{IsOfRam}
 use Rattle.tlb_entry.specs.declared.books.Book.{Book}
 use Rattle.kept_fills.proofs.Staying.{fills_stay}
 use Rattle.tlb_fill.proofs.Marking.{same_goes}
-use Rattle.turn_pieces.specs.Doing.{IsCalm}
 use Rattle.turn_pieces.specs.Folds.{drawn_next, unstored_next}
 use Rattle.turn_pieces.specs.Log.{made, did, Log}
 use Rattle.turn_pieces.specs.Kept.{places}
 use Rattle.turn_pieces.specs.KeptWalks.{flushes_in}
-use Rattle.turn_pieces.specs.Owed.{Owed, nothing, writes, stores, owes, owed, unstored, unstored_did, books, MayMake, PaysFor}
+use Rattle.turn_pieces.specs.Owed.{Owed, nothing, writes, stores, owed, unstored, unstored_did, books, MayMake, PaysFor}
 use Rattle.turn_pieces.specs.Right.{AreFenced, IsExec, IsFit, MayBe, SeenFor}
-use Rattle.turn_pieces.specs.Grows.{Grows, stays, makes, does, Ends, IsClear}
+use Rattle.turn_pieces.specs.Grows.{stays, makes, does, Ends, IsClear}
 use Rattle.turn_pieces.proofs.Accesses.{step_stands}
 use Rattle.turn_pieces.proofs.Offers.{free, store_owes}
 use Rattle.turn_pieces.proofs.Writers.{owed_named, places_did, tells_did}
-use Rattle.guest_access.specs.Stepping.{HasStepped, whole_op}
+use Rattle.guest_access.specs.Stepping.{HasStepped}
 use Rattle.guest_access.proofs.Areas.{ram_off}
 use Rattle.guest_access.proofs.Keeping.{goes_stepped}
 use Rattle.access_pieces.specs.Serving.{Tells, Wants, view}
@@ -106,4 +103,3 @@ exchange_may u a l m q pa seen new found clear x = free u a l clear (step_at m (
 pub exchange_due : (l : Log) (m q : Shown) (pa seen new found : ℕ) → found ≡ seen → HasStepped (Exchange seen) pa new found m q → IsWrite (owed (made (step_at m (Exchange seen) pa new found) ∷ l)) (ram_word pa) new
 exchange_due l m q pa seen new found same x = inl (owed_named l (step_at m (Exchange seen) pa new found) (Ram ((pa - 2 ^ 31) / 8)) (Exchange seen) x.name refl
     ∙ ap (λ (t : Bool). if t then writes (ram_word pa) (new_of (Exchange seen) found new) else nothing) (eq-eqb seen found (sym same)) ∙ ap (λ (t : Bool). writes (ram_word pa) (either t new found)) (eq-eqb found seen same))
-

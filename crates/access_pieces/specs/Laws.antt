@@ -1,5 +1,5 @@
 -- Laws of accesses: what the steps that an access made are to its hart's log.
-use Rattle.std.specs.Prelude.{◌≡◌, ℕ, Bool, true, IsTrue}
+use Rattle.std.specs.Prelude.{◌≡◌, ℕ, ◌<◌, ◌^◌, Bool, true, IsTrue}
 use Rattle.rv64_priv.specs.State.{Arch}
 use Rattle.rv64_priv.specs.Csr.{regime}
 use Rattle.rv64_exec.specs.Widths.{is_width}
@@ -8,9 +8,12 @@ use Rattle.step_laws.specs.Sections.{IsInSection}
 use Rattle.guest_ram.specs.Ports.{Shown, layout_of}
 use Rattle.tlb_entry.specs.declared.books.Book.{Book}
 use Rattle.guest_access.specs.declared.outcomes.Got.{Got}
-use Rattle.guest_access.specs.Atomics.{HasReserved, HasConditional}
+use Rattle.rv64_exec.specs.declared.needs.AmoOp.{AmoOp}
+use Rattle.guest_access.specs.Atomics.{HasConditional, HasOperatedAt, HasReserved}
 use Rattle.guest_access.specs.Loading.{HasLoaded}
 use Rattle.guest_access.specs.Reaching.{CanAccess}
+use Rattle.guest_access.specs.Storing.{HasStored}
+use Rattle.turn_pieces.specs.Draws.{may_draw}
 use Rattle.access_pieces.specs.Serving.{Serves}
 
 -- the hart is in its section where the access was told so
@@ -29,3 +32,13 @@ ReservesServe = (p q : Shown) (b b' : Book) (c : Arch) (va : ℕ) (wide : Bool) 
 abbrev pub ConditionalsServe : Type 0
 ConditionalsServe = (p q : Shown) (b b' : Book) (c : Arch) (va : ℕ) (wide : Bool) (value : ℕ) (got : Got) → CanAccess b p → HasConditional p q b b' (regime c) va c.hold wide value got
     → Serves p q b b' c (Need.Sc va wide value) got
+
+-- an atomic operation with this operand
+abbrev pub AmosServe : Type 0
+AmosServe = (p q : Shown) (b b' : Book) (c : Arch) (va : ℕ) (op : AmoOp) (wide : Bool) (value : ℕ) (got : Got) → value < 2 ^ 64 → CanAccess b p → HasOperatedAt p q b b' (regime c) va op wide value got
+    → Serves p q b b' c (Need.Amo va op wide value) got
+
+-- a store of this value, of a hart that has drawn no console place beyond the last since it looked at STOP
+abbrev pub StoresServe : Type 0
+StoresServe = (p q : Shown) (b b' : Book) (c : Arch) (va width value : ℕ) (section : Bool) (got : Got) → IsTrue (is_width width) → value < 2 ^ 64 → CanAccess b p → IsTold section p → may_draw p.own.steps ≡ true
+    → HasStored p q b b' (regime c) va width value section got → Serves p q b b' c (Need.Store va width value) got

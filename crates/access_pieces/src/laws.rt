@@ -1,5 +1,5 @@
 // Laws of accesses: each function's contract is its law.
-ghost use Rattle.access_pieces.specs.Laws.{ConditionalsServe, LoadsServe, ReservesServe};
+ghost use Rattle.access_pieces.specs.Laws.{AmosServe, ConditionalsServe, LoadsServe, ReservesServe, StoresServe};
 
 /// A load is served: behind its steps the log has the load's execution, with the answer that the reference machine gives in every state that
 /// fits the steps; or nothing was executed.
@@ -11,4 +11,16 @@ pub fn law_loads()
 pub fn law_reservations()
     ensures reserves { ReservesServe }
     ensures conditionals { ConditionalsServe }
+{}
+
+/// So is an atomic operation: its execution stands at the one operation that does it, or at its exchange; where that was lost nothing was
+/// executed.
+pub fn law_operations()
+    ensures { AmosServe }
+{}
+
+/// So is a store: its execution stands at its one store or exchange, behind the second store of two, at the draw of a byte's place, or at the
+/// exchange of STOP.
+pub fn law_stores()
+    ensures { StoresServe }
 {}

@@ -112,7 +112,7 @@ pub record Operated (rest : List ℕ) (operands : List (List ℕ)) : Type 0 wher
   pub behind : Behind rest
   pub bytes : list_all is_text_byte rest ≡ true
 
-text_of_piece : (p : List ℕ) → AllPieces p → list_all is_text_byte p ≡ true
+pub text_of_piece : (p : List ℕ) → AllPieces p → list_all is_text_byte p ≡ true
 text_of_piece p e = pass_on is_piece_byte is_text_byte piece_in_text p e
 
 pub nothing_operated : Operated [] []

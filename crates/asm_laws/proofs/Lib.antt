@@ -1,12 +1,12 @@
-mod Lists
-mod Pieces
-mod Numbers
-mod Registers
-mod Names
-mod Lines
-mod Forms
-mod Targets
-mod Instructions
-mod Slices
-mod Listings
-mod Law
+pub mod Lists
+pub mod Pieces
+pub mod Numbers
+pub mod Registers
+pub mod Names
+pub mod Lines
+pub mod Forms
+pub mod Targets
+pub mod Instructions
+pub mod Slices
+pub mod Listings
+pub mod Law

@@ -34,7 +34,7 @@ not_return : (c : ℕ) → is_text_byte c ≡ true → (c == 13) ≡ false
 not_return c e = grind (arith, e)
 
 -- a byte of a listing's line: `:` stands there too
-abbrev is_listed_byte : ℕ → Bool
+abbrev pub is_listed_byte : ℕ → Bool
 is_listed_byte c = nat_le 32 c
 
 listed_no_feed : (c : ℕ) → is_listed_byte c ≡ true → (c == 10) ≡ false
@@ -43,10 +43,10 @@ listed_no_feed c e = grind (arith, e)
 listed_no_return : (c : ℕ) → is_listed_byte c ≡ true → (c == 13) ≡ false
 listed_no_return c e = grind (arith, e)
 
-text_listed : (c : ℕ) → is_text_byte c ≡ true → is_listed_byte c ≡ true
+pub text_listed : (c : ℕ) → is_text_byte c ≡ true → is_listed_byte c ≡ true
 text_listed c e = grind (arith, e)
 
-fed_line : (xs ys : List ℕ) → list_all is_listed_byte xs ≡ true → lines_of (xs ++ 10 ∷ ys) ≡ xs ∷ lines_of ys
+pub fed_line : (xs ys : List ℕ) → list_all is_listed_byte xs ≡ true → lines_of (xs ++ 10 ∷ ys) ≡ xs ∷ lines_of ys
 fed_line [] ys e = refl
 fed_line (x ∷ xs) ys e =
     let here = head_passes is_listed_byte x xs e in

@@ -1,5 +1,5 @@
 // Lines of the commands on texts of guests, by the program and by the crate `clap`: one operand and no options.
-use clap::{Arg, Command};
+use clap::{Arg, Command, value_parser};
 use std::alloc::{AllocError, Global};
 use std::process::Abort;
 use std::test::Fail;
@@ -80,6 +80,44 @@ fn a_command_alone_is_no_line(rt: HostRuntime) -> Result<(), Fail> {
     for command in COMMANDS {
         let words = vec![in alloc; String::from_str(alloc, command)?]?;
         assert!(&rt; read_line(&words).is_none(), "{command}");
+    }
+    Ok(())
+}
+
+/// What stands behind `gen`, and the number that it says; none where it is no line.
+const NUMBERS: [(&str, Option<u32>); 8] = [
+    ("0", Some(0)),
+    ("7", Some(7)),
+    ("-- 7", Some(7)),
+    ("4294967295", Some(4_294_967_295)),
+    ("4294967296", None),
+    ("-1", None),
+    ("x", None),
+    ("1 2", None),
+];
+
+#[test]
+fn a_number_of_32_bits(rt: HostRuntime) -> Result<(), Fail> {
+    let alloc = rt.alloc();
+    for (behind, want) in NUMBERS {
+        let mut words = vec![in alloc; String::from_str(alloc, "gen")?]?;
+        for word in behind.split(' ') {
+            words.push(String::from_str(alloc, word)?)?;
+        }
+        let said = match read_line(&words) {
+            Some(Line::Gen { number }) => Some(number),
+            _ => None,
+        };
+        assert_eq!(&rt; said, want, "gen {behind}");
+        let number = Arg::new(alloc, "number")
+            .required(true)
+            .value_parser(value_parser!(u32));
+        let reader = Command::new(alloc, "gen").arg(number)?;
+        let read = match reader.try_get_matches_from(words.as_slice()) {
+            Ok(matches) => matches.get_one::<u32>("number"),
+            Err(_) => None,
+        };
+        assert_eq!(&rt; read, want, "clap: gen {behind}");
     }
     Ok(())
 }

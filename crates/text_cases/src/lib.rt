@@ -7,6 +7,8 @@ mod assembling;
 #[cfg(test)]
 mod call;
 #[cfg(test)]
+mod generating;
+#[cfg(test)]
 mod listing;
 #[cfg(test)]
 mod refusals;

@@ -14,14 +14,15 @@ use Rattle.ref_machine.specs.Shows.{Shows, resting}
 use Rattle.ref_machine.specs.Ran.{GoesOn, Ran}
 use Rattle.ref_machine.proofs.Runs.{first_only}
 use Rattle.tlbvm.specs.declared.status.Status.{Status}
-use Rattle.tlbvm.specs.Intake.{Task, Runs, Gives, Work, Lists, Makes, Name, Reads, Goes, Input, plain_input, ComesTo, on_image, on_order, on_text, intake_of, plain_intake, dis_intake, asm_intake, most_pages}
+use Rattle.tlbvm.specs.Intake.{Task, Runs, Gives, Work, Lists, Makes, Name, Reads, Goes, Input, plain_input, ComesTo, on_image, on_order, on_text, intake_of, plain_intake, dis_intake, asm_intake, gen_intake, most_pages}
 use Rattle.rv_asm.specs.Assembly.{Bad, assembly_of}
 use Rattle.elf_load.specs.Loaded.{Loaded}
 use Rattle.elf_load.specs.declared.image.BadImage.{BadImage}
 use Rattle.elf_load.specs.ImageOf.{image_of}
 use Rattle.tlbvm.specs.declared.items.Item.{Item}
 use Rattle.tlbvm.specs.Items.{order_of}
-use Rattle.tlbvm.specs.Options.{Line, Plain, Dis, Asm, Asked, runs_machine}
+use Rattle.tlbvm.specs.Options.{Line, Plain, Dis, Asm, Gen, Asked, runs_machine}
+use Rattle.guest_gen.specs.Text.{gen_text}
 use Rattle.tlbvm.specs.Refused.{IsRefused, IsMade, IsStarted}
 use Rattle.tlbvm.specs.Report.{report_from}
 use Rattle.tlbvm.specs.Status.{status_for, is_end, is_refusal}
@@ -244,15 +245,20 @@ no_machine_of_text names text input (inl e) = task_no_error (Runs input) Status.
 no_machine_of_text names text input (inr (inl e)) = task_no_error (Runs input) Status.TooLong e.0
 no_machine_of_text names text input (inr (inr e)) = text_runs_not names (assembly_of e.0) input e.2
 
+no_machine_of_number : (names : List ℕ → Name) (number : ℕ) (input : Input) → ComesTo names (gen_intake number) (Ok (Runs input)) → ⊥
+no_machine_of_number names number input e = no_same (Makes (gen_text number)) input (sym (same_ok (Runs input) (Gives (Makes (gen_text number))) e))
+
 runs_gives_not : (names : List ℕ → Name) (line : Line) (work : Work) → IsTrue (runs_machine line) → ComesTo names (intake_of line) (Ok (Gives work)) → ⊥
 runs_gives_not names (Plain elf order asked) work is came = no_work names elf order asked work came
 runs_gives_not names (Dis elf) work is came = cc
 runs_gives_not names (Asm text) work is came = cc
+runs_gives_not names (Gen number) work is came = cc
 
 gives_runs_not : (names : List ℕ → Name) (line : Line) (input : Input) → runs_machine line ≡ false → ComesTo names (intake_of line) (Ok (Runs input)) → ⊥
 gives_runs_not names (Plain elf order asked) input is came = cc
 gives_runs_not names (Dis elf) input is came = no_machine names elf input came
 gives_runs_not names (Asm text) input is came = no_machine_of_text names text input came
+gives_runs_not names (Gen number) input is came = no_machine_of_number names number input came
 
 -- what a machine's end, or what was made, came of
 abbrev Wrote : Call → Type 0

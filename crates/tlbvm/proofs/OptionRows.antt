@@ -1,7 +1,7 @@
 -- The definition of a line computed on lines.
 use Rattle.std.proofs.Common.{◌≡◌, refl, ℕ, List, [], ◌∷◌, Option, Some, None, true, false, Bool}
 use Rattle.std.specs.Prelude.{codes}
-use Rattle.tlbvm.specs.Options.{Line, Plain, Dis, Asm, line_of, with_value}
+use Rattle.tlbvm.specs.Options.{Line, Plain, Dis, Asm, Gen, line_of, with_value}
 
 -- a line of the operands e and o
 abbrev says : (harts pages limit : ℕ) → Bool → Option Line
@@ -113,3 +113,12 @@ listing_with_harts = refl
 
 listing_with_regs : line_of (codes "dis" ∷ codes "e" ∷ codes "--regs" ∷ []) ≡ None
 listing_with_regs = refl
+
+generated : line_of (codes "gen" ∷ codes "4294967295" ∷ []) ≡ Some (Gen 4294967295)
+generated = refl
+
+generated_past : line_of (codes "gen" ∷ codes "4294967296" ∷ []) ≡ None
+generated_past = refl
+
+generated_below : line_of (codes "gen" ∷ codes "-1" ∷ []) ≡ None
+generated_below = refl

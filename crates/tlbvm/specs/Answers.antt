@@ -39,7 +39,7 @@ IsAnswered Status.Stopped call = HasEnded (Some Reason.Stopped) call
 abbrev pub IsOneRun : Call → Type 0
 IsOneRun call = IsTrue (runs_machine call.line) → ((reason : Option Reason) × HasEnded reason call) ⊎ IsCutShort call
 
--- Of the other lines, which are those of `dis` and `asm`: `out` got the listing, or the file, and `log` nothing; or a prefix where `out` failed.
+-- Of the other lines, which are those of `dis`, `asm` and `gen`: `out` got the listing, the file or the text, and `log` nothing; or a prefix where `out` failed.
 abbrev pub IsOneText : Call → Type 0
 IsOneText call = runs_machine call.line ≡ false → HasWritten call ⊎ IsTextCut call
 

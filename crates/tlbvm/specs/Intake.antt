@@ -11,7 +11,8 @@ use Rattle.machine_model.specs.State.{Setup}
 use Rattle.machine_model.specs.Image.{setup_of}
 use Rattle.tlbvm.specs.declared.items.Item.{Item}
 use Rattle.tlbvm.specs.declared.status.Status.{Status}
-use Rattle.tlbvm.specs.Options.{Asked, Line, Plain, Dis, Asm}
+use Rattle.guest_gen.specs.Text.{gen_text}
+use Rattle.tlbvm.specs.Options.{Asked, Line, Plain, Dis, Asm, Gen}
 use Rattle.tlbvm.specs.Items.{order_of}
 use Rattle.tlbvm.specs.Turns.{hart_turns, turns_of}
 
@@ -87,10 +88,15 @@ on_text (Ok file) next = next file
 abbrev pub asm_intake : (text : List ℕ) → Intake
 asm_intake name = Reads name (λ text. on_text (assembly_of text) (λ file. Goes (Gives (Makes file))))
 
+-- `gen N` reads nothing: what it gives is the text of the number.
+abbrev pub gen_intake : (number : ℕ) → Intake
+gen_intake number = Goes (Gives (Makes (gen_text number)))
+
 abbrev pub intake_of : Line → Intake
 intake_of (Plain elf order asked) = plain_intake elf order asked
 intake_of (Dis elf) = dis_intake elf
 intake_of (Asm text) = asm_intake text
+intake_of (Gen number) = gen_intake number
 
 -- WHAT IT MAY COME TO
 

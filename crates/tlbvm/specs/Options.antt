@@ -16,6 +16,7 @@ pub data Line : Type 0 where
   Plain : (elf order : List ℕ) (asked : Asked) → Line
   Dis : (elf : List ℕ) → Line
   Asm : (text : List ℕ) → Line
+  Gen : (number : ℕ) → Line
 
 -- what was read so far
 pub record SoFar : Type 0 where
@@ -132,12 +133,18 @@ abbrev pub asm_from : (operands : List (List ℕ)) → (no_option : Bool) → Op
 asm_from (text ∷ []) true = Some (Asm text)
 asm_from _ no_option = None
 
+-- `gen N`, which has no options
+abbrev pub gen_from : (operands : List (List ℕ)) → (no_option : Bool) → Option Line
+gen_from (number ∷ []) true = option_map Gen (number_within number 4294967295)
+gen_from _ no_option = None
+
 -- the line of a command
 abbrev pub line_from : (command : List ℕ) → SoFar → Option Line
 line_from command seen =
     if bytes_eq command (codes "plain") then plain_from seen.operands (asked_of seen) else
     if bytes_eq command (codes "dis") then dis_from seen.operands (has_no_option seen) else
     if bytes_eq command (codes "asm") then asm_from seen.operands (has_no_option seen) else
+    if bytes_eq command (codes "gen") then gen_from seen.operands (has_no_option seen) else
     None
 
 -- the lines that run a machine
@@ -145,6 +152,7 @@ abbrev pub runs_machine : Line → Bool
 runs_machine (Plain elf order asked) = true
 runs_machine (Dis elf) = false
 runs_machine (Asm text) = false
+runs_machine (Gen number) = false
 
 -- the words of a line, of which the first is the command
 abbrev pub line_of : List (List ℕ) → Option Line

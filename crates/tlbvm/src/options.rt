@@ -2,12 +2,13 @@
 ghost use Rattle.std.specs.Prelude.{◌≡◌, true, false, None, Some, MatchOption, IfSome, map, string_bytes};
 ghost use Rattle.std.specs.Option.{option_map};
 ghost use Rattle.tlbvm.specs.Lines.{asked_as, line_as, shown, IsInLimits, IsLineInLimits};
-ghost use Rattle.tlbvm.specs.Options.{after_operands, after_words, asked_of, asm_from, dis_from, has_no_option, has_value, is_dashed, is_operand, line_of, name_in, plain_from, value_in};
+ghost use Rattle.tlbvm.specs.Options.{after_operands, after_words, asked_of, asm_from, dis_from, gen_from, has_no_option, has_value, is_dashed, is_operand, line_of, name_in, plain_from, value_in};
 
 mod seen;
 mod values;
 
 use seen::Seen;
+use text_lines::read_number;
 use values::{nothing, with_operand, with_regs, with_value};
 
 /// The machine that a line asks for: harts, pages of 4 KiB, the limit of instructions of each hart; and whether its
@@ -33,6 +34,9 @@ pub enum Line<'a> {
     },
     Asm {
         text: &'a str,
+    },
+    Gen {
+        number: u32,
     },
 }
 
@@ -160,6 +164,20 @@ fn asm_from<'a>(seen: &Seen<'a>) -> Option<Line<'a>>
     }
 }
 
+/// `gen N`, which has no options.
+fn gen_from<'a>(seen: &Seen<'a>) -> Option<Line<'a>>
+    ensures says { option_map line_as result ≡ gen_from (shown seen.now).operands (has_no_option (shown seen.now)) }
+    ensures limits { IfSome result (λ line. IsLineInLimits (line_as line)) }
+{
+    match seen.operands.as_slice() {
+        [number] if has_no_option(seen) => {
+            let number = read_number(number.as_bytes(), 4_294_967_295)? as u32;
+            Some(Line::Gen { number })
+        }
+        _ => None,
+    }
+}
+
 /// The words of a line, read: the command, its operands, and options at any place behind the command; `None` where they
 /// are no line. Behind `--` each word is an operand.
 pub fn read_line(words: &[String]) -> Option<Line<'_>>
@@ -174,6 +192,7 @@ pub fn read_line(words: &[String]) -> Option<Line<'_>>
         "plain" => plain_from(&seen),
         "dis" => dis_from(&seen),
         "asm" => asm_from(&seen),
+        "gen" => gen_from(&seen),
         _ => None,
     }
 }

@@ -1,9 +1,9 @@
 // The top call.
-ghost use Rattle.std.specs.Prelude.{◌≡◌, ◌↔◌, Option, None, Err, IsTrue, false, map, string_bytes};
+ghost use Rattle.std.specs.Prelude.{◌≡◌, ◌↔◌, ℕ, List, Option, None, Err, IsTrue, false, map, string_bytes};
 ghost use Rattle.machine_model.specs.declared.reason.Reason.{Reason as TheReason};
-ghost use Rattle.tlbvm.specs.Options.{Asm, Dis, Plain, line_of};
+ghost use Rattle.tlbvm.specs.Options.{Asm, Dis, Gen, Plain, line_of};
 ghost use Rattle.tlbvm.specs.Lines.{asked_as, line_as, IsInLimits, IsLineInLimits};
-ghost use Rattle.tlbvm.specs.Intake.{name_of};
+ghost use Rattle.tlbvm.specs.Intake.{name_of, Name};
 ghost use Rattle.tlbvm.specs.Status.{status_for, is_end, is_refusal};
 ghost use Rattle.tlbvm.specs.Call.{call_of, written_of, CameTo, GetsNothing, OnLine, Written};
 ghost use Rattle.tlbvm.specs.Answers.{EndsBy, IsAnswered, IsComplete, IsCut, IsOneText, IsOneRun};
@@ -13,6 +13,7 @@ use crate::options::{Asked, Line, read_line};
 use crate::start::{assembled, listing, start};
 use crate::status::{Status, status_of};
 use crate::taking::take_turns;
+use guest_gen::gen_text;
 use std::alloc::Global;
 use vm_io::{Images, Sink};
 
@@ -72,6 +73,21 @@ fn asm<F: Images, O: Sink>(alloc: Global, text: &str, images: &mut F, out: &mut 
     }
 }
 
+/// Does a `gen` line, which reads nothing and leaves `log` as it is.
+fn generate<O: Sink>(alloc: Global, number: u32, out: &mut O) -> Status
+    ensures answered { (names : List ℕ → Name) (log : Written) → GetsNothing log → IsAnswered result
+        (record { line = Gen number; names = names; out = written_of O.taken O.faults out.old out.new; log = log }) }
+    ensures untouched { is_end result ≡ false → out.new ≡ out.old }
+{
+    match gen_text(alloc, number) {
+        Ok(text) => match write_made(text.as_slice(), out) {
+            Ok(()) => Status::Done,
+            Err(_) => Status::WriteFault,
+        },
+        Err(_) => Status::NoMemory,
+    }
+}
+
 /// Does a line by its command.
 fn run_line<F: Images, O: Sink, L: Sink>(
     alloc: Global,
@@ -89,6 +105,7 @@ fn run_line<F: Images, O: Sink, L: Sink>(
         Line::Plain { elf, order, asked } => plain(alloc, elf, order, asked, images, out, log),
         Line::Dis { elf } => dis(alloc, elf, images, out),
         Line::Asm { text } => asm(alloc, text, images, out),
+        Line::Gen { number } => generate(alloc, number, out),
     }
 }
 
@@ -96,8 +113,8 @@ fn run_line<F: Images, O: Sink, L: Sink>(
 /// end, and writes the console's bytes to `out` and then the report to `log`.
 ///
 /// The lines that are built are `plain ELF ORDER`, with the options `--harts N`, `--pages N`, `--limit N` and `--regs`,
-/// `dis ELF`, which writes the listing of the file's image to `out`, and `asm TEXT`, which writes the ELF file of an
-/// assembler's text. Checks are made in this order: the words, the read of ELF, the image, the read of ORDER, the order,
+/// `dis ELF`, which writes the listing of the file's image to `out`, `asm TEXT`, which writes the ELF file of an
+/// assembler's text, and `gen N`, which writes the text of a guest by its number. Checks are made in this order: the words, the read of ELF, the image, the read of ORDER, the order,
 /// the machine's or the listing's memory; or the read of TEXT, its lines, the file's memory; the first that fails answers,
 /// and then no sink was called. Want of memory comes before the first turn only.
 pub fn tlbvm_still<F: Images, O: Sink, L: Sink>(
@@ -113,7 +130,7 @@ pub fn tlbvm_still<F: Images, O: Sink, L: Sink>(
         (call_of F.told F.faults O.taken O.faults L.taken L.faults images.old images.new out.old out.new log.old log.new)
         (map string_bytes words.now) IsOneRun }
 
-    // A `dis` line writes the listing of the image of its file, an `asm` line the file of its text.
+    // A `dis` line writes the listing of the image of its file, an `asm` line the file of its text, a `gen` line the text of its number.
     ensures made { IsTrue (is_end result) → OnLine
         (call_of F.told F.faults O.taken O.faults L.taken L.faults images.old images.new out.old out.new log.old log.new)
         (map string_bytes words.now) IsOneText }

@@ -1,8 +1,11 @@
 // What claims and requests answer, and the words that they leave.
-use crate::{Asked, Claims, ask_tour, section_tour};
+use crate::{Asked, Claims, ask_tour, fence_tour, section_tour};
 use guest_ram::Seen;
+use sbi_calls::Fencing;
 use std::test::Fail;
-use step_laws::{Layout, kick_word, pend_word, place_word, run_word};
+use step_laws::{
+    Layout, TlbField, kick_word, lock_word, pend_word, place_word, run_word, tlb_word,
+};
 use work_queue::{Request, request_word};
 
 const TWO_HARTS: Layout = Layout {
@@ -74,4 +77,34 @@ fn requests_are_words(rt: HostRuntime) {
     for (request, word) in rows {
         assert_eq!(rt; request_word(&request), word);
     }
+}
+
+#[test]
+fn a_fence_is_posted_in_pieces(rt: HostRuntime) -> Result<(), Fail> {
+    // 130 pages from page 1 on, at hart 1: two pieces of 64 pages and one of 2
+    let (words, fencing) = fence_tour(rt.alloc(), TWO_HARTS, 2)?;
+    let wanted = Fencing::Waiting(Seen {
+        word: 224,
+        value: 0x1202,
+    });
+    assert!(rt; fencing == wanted);
+    assert_eq!(rt; words.get(224), 0x1202);
+    assert_eq!(rt; words.get(225), 0x41202);
+    assert_eq!(rt; words.get(226), 0x81012);
+    assert_eq!(rt; words.get(227), 0);
+    assert_eq!(rt; words.get(kick_word(1)), 1);
+    // both harts: the own one is flushed at once, and the other's place awaited
+    let (words, fencing) = fence_tour(rt.alloc(), TWO_HARTS, 3)?;
+    assert!(rt; fencing == wanted);
+    assert_eq!(rt; words.get(lock_word(0)), 0);
+    // the own hart alone: done in one turn, and nobody is asked or called
+    let (words, fencing) = fence_tour(rt.alloc(), TWO_HARTS, 1)?;
+    assert!(rt; fencing == Fencing::Done);
+    assert_eq!(rt; words.get(224), 0);
+    assert_eq!(rt; words.get(kick_word(1)), 0);
+    assert_eq!(rt; words.get(tlb_word(0, 1, TlbField::Read)), 1);
+    // none
+    let (_, fencing) = fence_tour(rt.alloc(), TWO_HARTS, 0)?;
+    assert!(rt; fencing == Fencing::Done);
+    Ok(())
 }

@@ -1,0 +1,4 @@
+mod Fine
+mod NumberLines
+mod Whole
+mod Feeds
