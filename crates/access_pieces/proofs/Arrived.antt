@@ -36,7 +36,7 @@ use Rattle.access_pieces.specs.Serving.{Tells}
 use Rattle.guest_access.proofs.Fills.{IsPlaced}
 use Rattle.access_pieces.proofs.Sections.{AreApart, first_apart, second_apart}
 use Rattle.access_pieces.proofs.Led.{led}
-use Rattle.access_pieces.proofs.Spots.{IsLed, spot}
+use Rattle.access_pieces.specs.Translating.{IsLed, spot}
 
 -- the bytes were reached, or there was a fault
 abbrev pub IsReached : Result Place Got → Type 0

@@ -19,13 +19,13 @@ use Rattle.tlb_fill.specs.declared.translation.Translated.{Translated}
 use Rattle.turn_pieces.specs.Log.{Log}
 use Rattle.turn_pieces.specs.KeptWalks.{flushes_in}
 use Rattle.turn_pieces.specs.Owed.{nothing, owed, unstored}
-use Rattle.turn_pieces.specs.Grows.{Grows}
 use Rattle.turn_pieces.specs.Writers.{AreCalm, IsInner, QuietBy, quietly}
 use Rattle.turn_pieces.proofs.Writers.{calm_owes, quietly_grows, quietly_tells}
 use Rattle.guest_access.specs.Reaching.{Translates}
 use Rattle.access_pieces.specs.Serving.{Tells, view}
 use Rattle.access_pieces.proofs.Calm.{Calmly, IsStepped, translated_calmly}
-use Rattle.access_pieces.proofs.Spots.{IsLed, LeadsTo, flushes_quietly, leads, spot}
+use Rattle.access_pieces.specs.Translating.{Led}
+use Rattle.access_pieces.proofs.Spots.{flushes_quietly, leads}
 
 calm_quiet : (p q : Shown) (k : Calmly p q) → QuietBy IsInner (length k.added) (view p) (view q)
 calm_quiet p q k = record { added = k.added; few = omega arith; grown = ap view k.grown; calm = k.calm; inner = k.inner }
@@ -33,14 +33,6 @@ calm_quiet p q k = record { added = k.added; few = omega arith; grown = ap view 
 owes_nothing : (a : ℕ) (r : List Step) (l : Log) → IsStepped r → AreCalm a r → owed (quietly r l) ≡ nothing
 owes_nothing a [] l k c = absurd k
 owes_nothing a (s ∷ r) l k c = calm_owes a (owed (quietly r l)) (unstored (quietly r l)) (name_of s.word) s.op s.word s.arg s.answer c.0 c.1
-
--- behind a translation
-pub record Led (o : Own) (p m : Shown) (b' : Book) (c : Arch) (kind : Kind) (va : ℕ) (t : Translated) (u : Setup) (a : ℕ) (l : Log) : Type 0 where
-  pub added : List Step
-  pub grows : Grows u a l (quietly added l)
-  pub tells : Tells o m b' (regime c) u a (quietly added l)
-  pub clear : owed (quietly added l) ≡ nothing
-  pub leads_to : IsLed t → LeadsTo u.layout.pages a c kind va (spot t) (quietly added l)
 
 pub led : (o : Own) (p m : Shown) (b b' : Book) (c : Arch) (kind : Kind) (va : ℕ) (t : Translated) (u : Setup) (a : ℕ) (l : Log) → IsBeside b p → Translates p m b b' (regime c) kind va t → Tells o p b (regime c) u a l
     → Led o p m b' c kind va t u a l
@@ -52,6 +44,7 @@ led o p m b b' c kind va t u a l can call x =
     let items : made_all y.added ++ flushes_in a l ≡ flushes_in a (quietly k.calmly.added l) = ap (λ r. made_all r ++ flushes_in a l) same ∙ sym (flushes_quietly a k.calmly.added l) in
     let calm : AreCalm a k.calmly.added = subst (λ n. AreCalm n k.calmly.added) (sym x.tells.stands.actor) k.calmly.calm in record {
       added = k.calmly.added;
+      steps_are = ap (λ (z : Shown). z.own.steps) k.calmly.grown;
       grows = quietly_grows u a k.calmly.added l calm x.tells.clear x.tells.none_drawn;
       tells = record {
         tells = quietly_tells IsInner (length k.calmly.added) o (view p) (view m) u a l (calm_quiet p m k.calmly) x.tells;

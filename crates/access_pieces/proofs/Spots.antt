@@ -10,7 +10,7 @@ use Rattle.rv64_priv.specs.declared.state.Kind.{Kind}
 use Rattle.rv64_priv.specs.declared.state.Regime.{Regime}
 use Rattle.rv64_priv.specs.Walk.{Walked, Leaf, PageFault, AccessFault, at_leaf, is_canonical, is_device, is_ram, is_reachable, is_usable, leaf_address, pages_of_level, pte_address, reachable_leaf, walk_from, walk_of}
 use Rattle.step_laws.specs.declared.steps.Step.{Step}
-use Rattle.machine_model.specs.Access.{Spot, AtRam, AtDevice, Faults, spot_at, spot_of}
+use Rattle.machine_model.specs.Access.{AtRam, AtDevice, Faults, spot_at, spot_of}
 use Rattle.machine_model.specs.Event.{Event}
 use Rattle.machine_model.specs.Run.{renews}
 use Rattle.walk_laws.specs.WalkLoads.{Found, AreLoaded, reads_of}
@@ -21,9 +21,9 @@ use Rattle.tlb_fill.specs.declared.translation.Translated.{Translated}
 use Rattle.tlb_fill.specs.declared.translation.Translated.TheVariants as gives
 use Rattle.turn_pieces.specs.Log.{Log, HasStood}
 use Rattle.turn_pieces.specs.KeptWalks.{flushes_in}
-use Rattle.turn_pieces.specs.Right.{IsSeen}
 use Rattle.turn_pieces.specs.Writers.{quietly}
 use Rattle.turn_pieces.proofs.KeptWalks.{kept_is_seen}
+use Rattle.access_pieces.specs.Translating.{IsLed, LeadsTo, spot}
 
 pub flushes_quietly : (a : ℕ) (r : List Step) (l : Log) → flushes_in a (quietly r l) ≡ made_all r ++ flushes_in a l
 flushes_quietly a [] l = refl
@@ -90,19 +90,6 @@ module _ (pages : ℕ) (r : Regime) (kind : Kind) (finds : ℕ → ℕ) (va pte 
       go false true e = from_aligned 3 (r.satp % 2 ^ 44 * 4096) e
       go false false e = absurd (true≢false (sym (ap is_end e)))
 
--- where a translation's answer leads
-abbrev pub spot : Translated → Spot
-spot (gives.Ram pa) = AtRam pa
-spot (gives.Device pa) = AtDevice pa
-spot (gives.Fault cause tval) = Faults cause tval
-spot (gives.Busy busy) = Faults 0 0
-
--- the log shows a walk that leads there
-pub record LeadsTo (pages h : ℕ) (c : Arch) (kind : Kind) (va : ℕ) (s : Spot) (l : Log) : Type 0 where
-  pub walk : Walked
-  pub seen : IsSeen pages h c kind va walk l
-  pub spot_is : spot_of kind va walk ≡ s
-
 leaf_spot : (address va at : ℕ) (device : Bool) → address % 4096 ≡ 0 → is_device address ≡ device → at ≡ place_in address va → spot_at (address + va % 4096) ≡ (if device then AtDevice at else AtRam at)
 leaf_spot address va at device z d is = ap (λ n. spot_at n) place ∙ ap (λ (t : Bool). if t then AtDevice at else AtRam at) (ap (λ n. (n == 0x10000) || (n == 0x100)) same ∙ d)
   where
@@ -124,11 +111,6 @@ fault_spot : (kind : Kind) (va cause tval : ℕ) (end : Walked) → IsCause kind
 fault_spot kind va cause tval (Leaf p a l) k e = absurd k
 fault_spot kind va cause tval PageFault k e = λ i. Faults (sym k i) (sym e i)
 fault_spot kind va cause tval AccessFault k e = λ i. Faults (sym k i) (sym e i)
-
--- not where the lock was held
-abbrev pub IsLed : Translated → Type 0
-IsLed (gives.Busy busy) = ⊥
-IsLed t = Unit {0}
 
 pub leads : (pages a : ℕ) (c : Arch) (kind : Kind) (va : ℕ) (t : Translated) (added : List Step) (l : Log) → IsLed t → IsAllowed pages (regime c) kind va t added (flushes_in a l) → LeadsTo pages a c kind va (spot t) (quietly added l)
 leads pages a c kind va (gives.Ram at) added l k x = leaf_leads pages a c kind va at false added l x

@@ -11,10 +11,22 @@ use Rattle.guest_access.specs.declared.outcomes.Got.{Got}
 use Rattle.rv64_exec.specs.declared.needs.AmoOp.{AmoOp}
 use Rattle.guest_access.specs.Atomics.{HasConditional, HasOperatedAt, HasReserved}
 use Rattle.guest_access.specs.Loading.{HasLoaded}
-use Rattle.guest_access.specs.Reaching.{CanAccess}
 use Rattle.guest_access.specs.Storing.{HasStored}
 use Rattle.turn_pieces.specs.Draws.{may_draw}
-use Rattle.access_pieces.specs.Serving.{Serves}
+use Rattle.machine_model.specs.Own.{Own}
+use Rattle.machine_model.specs.State.{Setup}
+use Rattle.rv64_priv.specs.declared.state.Kind.{Kind}
+use Rattle.kept_fills.specs.Beside.{IsBeside}
+use Rattle.tlb_fill.specs.declared.translation.Translated.{Translated}
+use Rattle.guest_access.specs.Reaching.{CanAccess, Translates}
+use Rattle.turn_pieces.specs.Log.{Log}
+use Rattle.access_pieces.specs.Serving.{Serves, Tells}
+use Rattle.access_pieces.specs.Translating.{Led}
+
+-- a translation is in each log that told of the port before
+abbrev pub TranslationsLead : Type 0
+TranslationsLead = (p q : Shown) (b b' : Book) (c : Arch) (kind : Kind) (va : ℕ) (t : Translated) → IsBeside b p → Translates p q b b' (regime c) kind va t
+    → (o : Own) (u : Setup) (a : ℕ) (l : Log) → Tells o p b (regime c) u a l → Led o p q b' c kind va t u a l
 
 -- the hart is in its section where the access was told so
 abbrev pub IsTold : (section : Bool) → Shown → Type 0

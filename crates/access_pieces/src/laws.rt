@@ -1,5 +1,5 @@
 // Laws of accesses: each function's contract is its law.
-ghost use Rattle.access_pieces.specs.Laws.{AmosServe, ConditionalsServe, LoadsServe, ReservesServe, StoresServe};
+ghost use Rattle.access_pieces.specs.Laws.{AmosServe, ConditionalsServe, LoadsServe, ReservesServe, StoresServe, TranslationsLead};
 
 /// A load is served: behind its steps the log has the load's execution, with the answer that the reference machine gives in every state that
 /// fits the steps; or nothing was executed.
@@ -23,4 +23,10 @@ pub fn law_operations()
 /// exchange of STOP.
 pub fn law_stores()
     ensures { StoresServe }
+{}
+
+/// A translation owes no event: each log that told of the port before goes on by its steps alone to one that tells of the port behind, and shows
+/// a walk that leads to where the answer does, unless the lock was held.
+pub fn law_translations()
+    ensures { TranslationsLead }
 {}

@@ -3,4 +3,4 @@
 
 mod laws;
 
-pub use laws::{law_loads, law_operations, law_reservations, law_stores};
+pub use laws::{law_loads, law_operations, law_reservations, law_stores, law_translations};

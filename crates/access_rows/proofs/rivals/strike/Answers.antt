@@ -1,0 +1,8 @@
+use Rattle.access_rows.proofs.Beside.{rival_may, rival_on}
+use Rattle.access_rows.proofs.rivals.strike.Goals as goal
+
+pub store-requires-clause-may : goal.store-requires-clause-may
+store-requires-clause-may g c = rival_may _ _ _ c.requires.rival c.ram_word_at-word.ensures.name
+
+pub returns-clause-rival : goal.returns-clause-rival
+returns-clause-rival g c = rival_on _ _ _ _ c.requires.rival c.store.ensures.step c.ram_word_at-word.ensures.name
