@@ -21,6 +21,7 @@ use Rattle.machine_model.specs.Memory.{Memory, One, number_in, replaced}
 use Rattle.machine_model.specs.Own.{Own, own_executed}
 use Rattle.machine_model.specs.Perform.{Surroundings, amo_outcome, combined, extended, perform, width_of}
 use Rattle.machine_model.specs.State.{Setup}
+use Rattle.machine_model.specs.Walks.{access_of}
 use Rattle.guest_ram.specs.Ports.{Shown}
 use Rattle.tlb_entry.specs.declared.books.Book.{Book}
 use Rattle.turn_pieces.specs.Log.{made, Log}
@@ -36,9 +37,11 @@ use Rattle.guest_access.specs.Reaching.{CanAccess}
 use Rattle.guest_access.specs.Stepping.{HasStepped, whole_op}
 use Rattle.guest_access.specs.Storing.{HasExchanged}
 use Rattle.access_pieces.specs.Laws.{AmosServe}
-use Rattle.access_pieces.specs.Serving.{Served, Tells, Wants}
+use Rattle.access_pieces.specs.Serving.{Served, Settles, Tells, Wants, given_up}
+use Rattle.access_pieces.proofs.Awaited.{exec_pages, given_up_pages}
+use Rattle.access_pieces.proofs.GivenUp.{give_up, made_quietly}
 use Rattle.access_pieces.proofs.Atomic.{Atomic, Come, aligned_seen, come, unplaced_served}
-use Rattle.access_pieces.proofs.Executing.{exchange_held, load_of, loaded_in, lost_in, step_at}
+use Rattle.access_pieces.proofs.Executing.{awaits_stepped, exchange_held, load_of, loaded_in, lost_in, step_at}
 use Rattle.access_pieces.proofs.Loads.{hart_there}
 use Rattle.access_pieces.proofs.Writing.{IsWrite, exchange_due, exchange_may, write_exec, wrote}
 
@@ -141,39 +144,48 @@ whole_operated memory va pa old value amo op e within less few held =
 
 module _ (o : Own) (p m q : Shown) (b b' : Book) (c : Arch) (va pa value : ℕ) (op : AmoOp) (u : Setup) (a : ℕ) (l : Log) (can : CanAccess b p) (t : Tells o p b (regime c) u a l) (few : value < 2 ^ 64) where
   whole_served : (by : WordOp) (old : ℕ) → Wants o c (Need.Amo va op true value) → whole_op op ≡ Some by → Come c (Need.Amo va op true value) Kind.Store va true (amo_at va op true value) (amo c va op true value) o m b' pa u a l → HasStepped by pa value old m q
-      → Ends u a l (Tells (own_executed (only (Answer.Value old)) o) q b' (regime c) u a)
+      → Ends u a l (Settles (own_executed (only (Answer.Value old)) o) q b' (regime c) u a)
   whole_served by old wants is k x =
       let s = step_at m by pa value old in
       let kind = by_amo op by is in
       let y = operates u a k.late m q pa value old k.tells.tells.clear by kind x in
-      ends_then u a l k.late (Tells (own_executed (only (Answer.Value old)) o) q b' (regime c) u a) k.grows
+      ends_then u a l k.late (Settles (own_executed (only (Answer.Value old)) o) q b' (regime c) u a) k.grows
       (write_exec o m q b' (regime c) c (Need.Amo va op true value) (Answer.Value old) k.walk k.walk by pa value old (new_of by old value) u a k.late k.tells x y.0 y.1 wants (hart_there o p b c u a l can t)
       (aligned_seen c (Need.Amo va op true value) Kind.Store va true (amo_at va op true value) (amo c va op true value) u.layout.pages a k.walk (made s ∷ k.late) k.aligned
       (seen_quietly u.layout.pages a c Kind.Store va k.walk (s ∷ []) k.late k.seen)) (λ w. (amo c va op true value).calm w a)
-      (λ w may. whole_operated w.memory va pa old value op by is k.within x.small few (operated_held u a k.late m q by pa value old w kind x may) ∙ sym (k.performed w)))
+      (λ w may. whole_operated w.memory va pa old value op by is k.within x.small few (operated_held u a k.late m q by pa value old w kind x may) ∙ sym (k.performed w)) k.awaits)
 
   module _ (wide : Bool) (wants : Wants o c (Need.Amo va op wide value)) (k : Come c (Need.Amo va op wide value) Kind.Store va wide (amo_at va op wide value) (amo c va op wide value) o m b' pa u a l) where
     part_served : (seen found : ℕ) → HasExchanged pa seen (new_word op pa wide value seen) found m q → found ≡ seen
-        → Ends u a l (Tells (own_executed (only (Answer.Value (extended true (width_of wide) (old_number pa wide seen)))) o) q b' (regime c) u a)
+        → Ends u a l (Settles (own_executed (only (Answer.Value (extended true (width_of wide) (old_number pa wide seen)))) o) q b' (regime c) u a)
     part_served seen found x same =
         let answer = Answer.Value (extended true (width_of wide) (old_number pa wide seen)) in
         let new = new_word op pa wide value seen in
         let y = loaded_in o m x.mid b' (regime c) pa seen u a k.late k.tells x.loads in
         let middle = made (load_of m pa seen) ∷ k.late in
         let s = step_at x.mid (ops.Exchange seen) pa new found in
-        ends_then u a l middle (Tells (own_executed (only answer) o) q b' (regime c) u a) (grows_then u a l k.late k.grows y.grows)
+        ends_then u a l middle (Settles (own_executed (only answer) o) q b' (regime c) u a) (grows_then u a l k.late k.grows y.grows)
         (write_exec o x.mid q b' (regime c) c (Need.Amo va op wide value) answer k.walk k.walk (ops.Exchange seen) pa new found new u a middle y.tells x.exchanges (exchange_may u a middle x.mid q pa seen new found y.tells.tells.clear x.exchanges)
         (exchange_due middle x.mid q pa seen new found same x.exchanges) wants (hart_there o p b c u a l can t)
         (aligned_seen c (Need.Amo va op wide value) Kind.Store va wide (amo_at va op wide value) (amo c va op wide value) u.layout.pages a k.walk (made s ∷ middle) k.aligned
         (seen_quietly u.layout.pages a c Kind.Store va k.walk (s ∷ load_of m pa seen ∷ []) k.late k.seen)) (λ w. (amo c va op wide value).calm w a)
-        (λ w may. operated_as w.memory va pa seen value op wide (exchange_held u a middle x.mid q pa seen new found w x.exchanges may ∙ same) ∙ sym (k.performed w)))
+        (λ w may. operated_as w.memory va pa seen value op wide (exchange_held u a middle x.mid q pa seen new found w x.exchanges may ∙ same) ∙ sym (k.performed w))
+        (awaits_stepped (exec_pages (Need.Amo va op wide value) k.walk k.walk) u a k.late m x.mid ops.Load pa 0 seen x.loads k.awaits))
 
-    lost_served : (seen found : ℕ) → HasExchanged pa seen (new_word op pa wide value seen) found m q → found ≢ seen → Ends u a l (Tells o q b' (regime c) u a)
+    lost_served : (seen found : ℕ) → HasExchanged pa seen (new_word op pa wide value seen) found m q → found ≢ seen → Ends u a l (Settles (given_up o) q b' (regime c) u a)
     lost_served seen found x other =
         let y = loaded_in o m x.mid b' (regime c) pa seen u a k.late k.tells x.loads in
         let middle = made (load_of m pa seen) ∷ k.late in
         let z = lost_in o x.mid q b' (regime c) pa seen (new_word op pa wide value seen) found u a middle y.tells (λ e. other (sym e)) x.exchanges in
-        record { late = made (step_at x.mid (ops.Exchange seen) pa (new_word op pa wide value seen) found) ∷ middle; grows = grows_then u a l middle (grows_then u a l k.late k.grows y.grows) z.grows; holds = z.tells }
+        let need = Need.Amo va op wide value in
+        let new = new_word op pa wide value seen in
+        let s = step_at x.mid (ops.Exchange seen) pa new found in
+        let late = made s ∷ middle in
+        let pages = given_up_pages need (k.walk ∷ []) in
+        ends_then u a l late (Settles (given_up o) q b' (regime c) u a) (grows_then u a l middle (grows_then u a l k.late k.grows y.grows) z.grows)
+        (give_up o q b' (regime c) c need (k.walk ∷ []) u a late z.tells z.clear wants (hart_there o p b c u a l can t)
+        (made_quietly u.layout.pages a c (access_of need) (k.walk ∷ []) (s ∷ load_of m pa seen ∷ []) k.late k.made)
+        (awaits_stepped pages u a middle x.mid q (ops.Exchange seen) pa new found x.exchanges (awaits_stepped pages u a k.late m x.mid ops.Load pa 0 seen x.loads k.awaits_given)))
 
     exchanged_served : (got : Got) → HasExchangedFor op pa wide value m q got → Ends u a l (Served o got q b' (regime c) u a)
     exchanged_served got (done {seen} {found} x same e) = subst (λ (g : Got). Ends u a l (Served o g q b' (regime c) u a)) (sym e) (part_served seen found x same)
@@ -188,6 +200,6 @@ operated_served o p m q b b' c va pa value op wide got u a l can t few wants k (
 pub amos_serve : AmosServe
 amos_serve p q b b' c va op wide value got few can (on_word {mid} {pa} placed x) = λ o wants u a l rests.
     operated_served o p mid q b b' c va pa value op wide got u a l can rests.tells few wants
-    (come c (Need.Amo va op wide value) Kind.Store va wide (amo_at va op wide value) (amo c va op wide value) o p mid b b' pa u a l can.beside rests.tells placed) x
+    (come c (Need.Amo va op wide value) Kind.Store va wide (amo_at va op wide value) (amo c va op wide value) o p mid b b' pa u a l can.beside rests.tells rests.settled placed) x
 amos_serve p q b b' c va op wide value got few can (on_none placed) = λ o wants u a l rests.
-    unplaced_served c (Need.Amo va op wide value) Kind.Store va wide (amo_at va op wide value) (amo c va op wide value) o p q b b' got u a l can.beside (hart_there o p b c u a l can rests.tells) wants rests.tells rests.idle placed
+    unplaced_served c (Need.Amo va op wide value) Kind.Store va wide (amo_at va op wide value) (amo c va op wide value) o p q b b' got u a l can.beside (hart_there o p b c u a l can rests.tells) wants rests.tells rests.idle rests.settled placed

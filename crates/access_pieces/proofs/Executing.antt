@@ -1,5 +1,5 @@
 -- An execution that writes nothing, placed behind a step that needs no event; and loads of RAM.
-use Rattle.std.proofs.Common.{◌≡◌, ◌≢◌, ℕ, ◌<◌, [], ◌∷◌, None, refl, sym, ap, subst, ◌∙◌, arith}
+use Rattle.std.proofs.Common.{◌≡◌, ◌≢◌, ℕ, ◌<◌, List, [], ◌∷◌, None, refl, sym, ap, subst, ◌∙◌, arith}
 use Rattle.rv64_priv.specs.State.{Arch}
 use Rattle.rv64_priv.specs.declared.state.Regime.{Regime}
 use Rattle.rv64_priv.specs.Walk.{Walked}
@@ -30,19 +30,21 @@ use Rattle.turn_pieces.specs.Owed.{nothing, owed, unstored, unstored_did, books,
 use Rattle.turn_pieces.specs.Right.{AreFenced, IsExec, IsFit, MayBe, SeenFor}
 use Rattle.turn_pieces.specs.Grows.{Grows, stays, does, Ends}
 use Rattle.turn_pieces.specs.Writers.{IsInner, IsPlain, QuietBy}
+use Rattle.turn_pieces.proofs.Unmarked.{is_other}
 use Rattle.turn_pieces.proofs.Writers.{calm_owes, places_did, quietly_grows, quietly_tells, tells_did}
 use Rattle.guest_access.specs.Stepping.{HasStepped}
 use Rattle.guest_access.proofs.Areas.{ram_off}
 use Rattle.guest_access.proofs.Keeping.{goes_stepped}
-use Rattle.access_pieces.specs.Serving.{Tells, Wants, view}
+use Rattle.access_pieces.specs.Serving.{Settles, Tells, Wants, view}
+use Rattle.access_pieces.proofs.Awaited.{AwaitsBut, awaits_step, exec_pages, exec_paid}
 
 quiet_only : (h : ℕ) (walk second : Walked) (answer : Answer) → IsQuiet (Exec h walk second (only answer))
 quiet_only h walk second answer = record { does = record { entry_is = refl; bytes_are = refl; reason_is = refl; starts_is = refl; stops_is = refl }; begins_not = refl }
 
 pub quiet_exec : (o : Own) (q : Shown) (b : Book) (r : Regime) (c : Arch) (need : Need) (answer : Answer) (walk second : Walked) (u : Setup) (a : ℕ) (l : Log) → Tells o q b r u a l → owed l ≡ nothing → Wants o c need → a < u.layout.harts
     → SeenFor u.layout.pages a c (access_of need) walk second l → ((w : Surroundings) → flushing w a c need ≡ None) → ((w : Surroundings) → MayBe u a l w → only answer ≡ perform w a c walk second need)
-    → Ends u a l (Tells (own_executed (only answer) o) q b r u a)
-quiet_exec o q b r c need answer walk second u a l t none wants hart seen calm right =
+    → AwaitsBut (exec_pages need walk second) u a l → Ends u a l (Settles (own_executed (only answer) o) q b r u a)
+quiet_exec o q b r c need answer walk second u a l t none wants hart seen calm right awaits =
     let e = Exec a walk second (only answer) in
     let fit : IsExec u a l walk second (only answer) o = record {
       holds = wants.holds;
@@ -53,15 +55,22 @@ quiet_exec o q b r c need answer walk second u a l t none wants hart seen calm r
       late = did e ∷ l;
       grows = does e stays (record { own = refl; fit = subst (IsFit u a l e) (sym t.tells.stands.part_is) (hart, fit); pays = subst (λ d. PaysFor a (books l) d e) (sym none) (quiet_only a walk second answer) });
       holds = record {
-        tells = tells_did o (view q) u a l e t.tells.stands refl (places_did l e t.tells.none_drawn) (ap (λ d. unstored_did d (did_of e).bytes (unstored l)) none ∙ t.tells.none_left);
-        fills = t.fills;
-        goes = t.goes;
+        tells = record {
+          tells = tells_did o (view q) u a l e t.tells.stands refl (places_did l e t.tells.none_drawn) (ap (λ d. unstored_did d (did_of e).bytes (unstored l)) none ∙ t.tells.none_left);
+          fills = t.fills;
+          goes = t.goes;
+        };
+        settled = exec_paid o c need walk second (only answer) u a l wants t.tells.stands.part_is awaits;
       };
     }
 
 -- the step on the word of an address
 abbrev pub step_at : Shown → (op : WordOp) → (pa arg answer : ℕ) → Step
 step_at m op pa arg answer = step_of m.own.actor (ram_word pa) op arg answer
+
+-- a step on RAM marks nothing
+pub awaits_stepped : (pages : List ℕ) (u : Setup) (a : ℕ) (l : Log) (m q : Shown) (op : WordOp) (pa arg answer : ℕ) → HasStepped op pa arg answer m q → AwaitsBut pages u a l → AwaitsBut pages u a (made (step_at m op pa arg answer) ∷ l)
+awaits_stepped pages u a l m q op pa arg answer x k = awaits_step pages u a l (step_at m op pa arg answer) (ap is_other x.name) k
 
 -- behind a load of RAM
 pub record Loaded (o : Own) (q : Shown) (b : Book) (r : Regime) (u : Setup) (a : ℕ) (l : Log) (s : Step) : Type 0 where

@@ -14,7 +14,7 @@ use Rattle.step_laws.specs.declared.steps.Step.{Step}
 use Rattle.step_laws.specs.declared.steps.WordOp.TheVariants.{Load}
 use Rattle.tlb_fill.specs.declared.translation.Translated.{Translated}
 use Rattle.tlb_fill.specs.declared.translation.Translated.TheVariants as gives
-use Rattle.turn_pieces.specs.Right.{AreSeen, MayBe}
+use Rattle.turn_pieces.specs.Right.{AreSeen, MayBe, SeenMade}
 use Rattle.machine_model.specs.Access.{Reach, crosses_page, reach, second_va}
 use Rattle.machine_model.specs.Device.{device_value}
 use Rattle.machine_model.specs.Event.{only}
@@ -23,6 +23,8 @@ use Rattle.machine_model.specs.Memory.{Memory, number_in}
 use Rattle.machine_model.specs.Own.{Own, own_executed}
 use Rattle.machine_model.specs.Perform.{Surroundings, extended, load_outcome, device_load_outcome, perform}
 use Rattle.machine_model.specs.State.{Setup}
+use Rattle.machine_model.specs.Stores.{of_store, pages_walked}
+use Rattle.machine_model.specs.Walks.{Wanted, access_of}
 use Rattle.guest_ram.specs.Ports.{Shown}
 use Rattle.tlb_entry.specs.declared.books.Book.{Book}
 use Rattle.step_laws.specs.Sections.{IsInSection}
@@ -40,10 +42,12 @@ use Rattle.guest_access.specs.Loading.{gives_register, in_word, on_device, over_
 use Rattle.guest_access.specs.Reaching.{CanAccess, HasReached, by_one, by_two, first_reached, second_reached}
 use Rattle.guest_access.specs.Stepping.{HasStepped}
 use Rattle.access_pieces.specs.Laws.{LoadsServe}
-use Rattle.access_pieces.specs.Serving.{Served, Tells, Wants}
+use Rattle.access_pieces.specs.Serving.{Served, Settles, Tells, Wants, given_up}
+use Rattle.access_pieces.proofs.Awaited.{AwaitsBut, exec_pages}
+use Rattle.access_pieces.proofs.GivenUp.{give_up}
 use Rattle.access_pieces.proofs.Arrived.{Arrived, IsReached, arrived, reached_as}
 use Rattle.access_pieces.proofs.Sections.{InSection, section_reached, section_stepped, words_apart, words_sectioned}
-use Rattle.access_pieces.proofs.Executing.{held_here, load_of, loaded_in, quiet_exec}
+use Rattle.access_pieces.proofs.Executing.{awaits_stepped, held_here, load_of, loaded_in, quiet_exec}
 
 no_flush : (w : Surroundings) (h : ℕ) (c : Arch) (va width : ℕ) (sign : Bool) → flushing w h c (Need.Load va width sign) ≡ None
 unfolding flushing
@@ -60,12 +64,12 @@ hart_there o p b c u a l can t = subst (λ n. n < u.layout.harts) (sym t.tells.s
 
 -- an answer without another step
 answered : (o : Own) (p m : Shown) (b b' : Book) (c : Arch) (va width : ℕ) (sign : Bool) (x : Result Place Got) (answer : Answer) (u : Setup) (a : ℕ) (l : Log) → CanAccess b p → Wants o c (Need.Load va width sign) → Tells o p b (regime c) u a l
-    → Arrived o m b' c Kind.Load va width x u a l → IsReached x → ((memory : Memory) → only answer ≡ load_outcome memory va width sign (reached_as width x)) → Ends u a l (Tells (own_executed (only answer) o) m b' (regime c) u a)
+    → Arrived o m b' c Kind.Load va width x u a l → IsReached x → ((memory : Memory) → only answer ≡ load_outcome memory va width sign (reached_as width x)) → Ends u a l (Settles (own_executed (only answer) o) m b' (regime c) u a)
 answered o p m b b' c va width sign x answer u a l can wants t ar ok is =
     let sh = ar.shows ok in
-    ends_then u a l ar.late (Tells (own_executed (only answer) o) m b' (regime c) u a) ar.grows
+    ends_then u a l ar.late (Settles (own_executed (only answer) o) m b' (regime c) u a) ar.grows
     (quiet_exec o m b' (regime c) c (Need.Load va width sign) answer sh.walk sh.second u a ar.late ar.tells ar.clear wants (hart_there o p b c u a l can t) sh.seen (λ w. no_flush w a c va width sign)
-    (λ w may. is w.memory ∙ load_as w a c va width sign sh.walk sh.second (reached_as width x) sh.reach_is))
+    (λ w may. is w.memory ∙ load_as w a c va width sign sh.walk sh.second (reached_as width x) sh.reach_is) (ar.awaits ok))
 
 seen_made : (u : Setup) (a : ℕ) (c : Arch) (va width : ℕ) (walk second : Walked) (l : Log) (s : Step) → AreSeen u.layout.pages a c (record { kind = Kind.Load; va = va; width = width }) walk second l
     → AreSeen u.layout.pages a c (record { kind = Kind.Load; va = va; width = width }) walk second (made s ∷ l)
@@ -77,16 +81,17 @@ seen_made u a c va width walk second l s x = record {
 -- within a word
 word_served : (o : Own) (p m q : Shown) (b b' : Book) (c : Arch) (va width pa word : ℕ) (sign : Bool) (u : Setup) (a : ℕ) (l : Log) → CanAccess b p → Wants o c (Need.Load va width sign) → Tells o p b (regime c) u a l
     → Arrived o m b' c Kind.Load va width (Ok (at.Word pa)) u a l → HasStepped Load pa 0 word m q
-    → Ends u a l (Tells (own_executed (only (Answer.Value (extended sign width (number_in word (pa % 8) width)))) o) q b' (regime c) u a)
+    → Ends u a l (Settles (own_executed (only (Answer.Value (extended sign width (number_in word (pa % 8) width)))) o) q b' (regime c) u a)
 word_served o p m q b b' c va width pa word sign u a l can wants t ar x =
     let sh = ar.shows tt in
     let answer = Answer.Value (extended sign width (number_in word (pa % 8) width)) in
     let y = loaded_in o m q b' (regime c) pa word u a ar.late ar.tells x in
     let late = made (load_of m pa word) ∷ ar.late in
-    ends_then u a l late (Tells (own_executed (only answer) o) q b' (regime c) u a) (grows_then u a l ar.late ar.grows y.grows)
+    ends_then u a l late (Settles (own_executed (only answer) o) q b' (regime c) u a) (grows_then u a l ar.late ar.grows y.grows)
     (quiet_exec o q b' (regime c) c (Need.Load va width sign) answer sh.walk sh.second u a late y.tells y.clear wants (hart_there o p b c u a l can t) (seen_made u a c va width sh.walk sh.second ar.late (load_of m pa word) sh.seen) (λ w. no_flush w a c va width sign)
     (λ w may. ap (λ n. only (Answer.Value (extended sign width (number_in n (pa % 8) width)))) (sym (held_here u a ar.late m q pa word w x may))
-    ∙ load_as w a c va width sign sh.walk sh.second (reached_as width (Ok (at.Word pa))) sh.reach_is))
+    ∙ load_as w a c va width sign sh.walk sh.second (reached_as width (Ok (at.Word pa))) sh.reach_is)
+    (awaits_stepped (exec_pages (Need.Load va width sign) sh.walk sh.second) u a ar.late m q Load pa 0 word x (ar.awaits tt)))
 
 -- over two words, in the section
 module _ (u : Setup) (a : ℕ) (c : Arch) (o : Own) (m next q : Shown) (b : Book) (first second low high : ℕ) (l : Log) (apart : ram_word first ≢ ram_word second) (x : HasStepped Load first 0 low m next) (y : HasStepped Load second 0 high next q) where
@@ -111,7 +116,7 @@ module _ (u : Setup) (a : ℕ) (c : Arch) (o : Own) (m next q : Shown) (b : Book
 
 words_served : (o : Own) (p m next q : Shown) (b b' : Book) (c : Arch) (va width first second low high : ℕ) (sign : Bool) (u : Setup) (a : ℕ) (l : Log) → CanAccess b p → Wants o c (Need.Load va width sign) → Tells o p b (regime c) u a l
     → Arrived o m b' c Kind.Load va width (Ok (at.Words first second)) u a l → InSection m → HasStepped Load first 0 low m next → HasStepped Load second 0 high next q
-    → Ends u a l (Tells (own_executed (only (Answer.Value (extended sign width (number_in (low + 2 ^ 64 * high) (first % 8) width)))) o) q b' (regime c) u a)
+    → Ends u a l (Settles (own_executed (only (Answer.Value (extended sign width (number_in (low + 2 ^ 64 * high) (first % 8) width)))) o) q b' (regime c) u a)
 unfolding both_late
 words_served o p m next q b b' c va width first second low high sign u a l can wants t ar section x y =
     let sh = ar.shows tt in
@@ -121,13 +126,15 @@ words_served o p m next q b b' c va width first second low high sign u a l can w
     let g = loaded_in o next q b' (regime c) second high u a middle f.tells y in
     let late = made (load_of next second high) ∷ middle in
     let inside : InSection q = section_stepped Load second 0 high next q y (section_stepped Load first 0 low m next x section) in
-    ends_then u a l late (Tells (own_executed (only answer) o) q b' (regime c) u a) (grows_then u a l middle (grows_then u a l ar.late ar.grows f.grows) g.grows)
+    ends_then u a l late (Settles (own_executed (only answer) o) q b' (regime c) u a) (grows_then u a l middle (grows_then u a l ar.late ar.grows f.grows) g.grows)
     (quiet_exec o q b' (regime c) c (Need.Load va width sign) answer sh.walk sh.second u a late g.tells g.clear wants (hart_there o p b c u a l can t)
     (seen_made u a c va width sh.walk sh.second middle (load_of next second high) (seen_made u a c va width sh.walk sh.second ar.late (load_of m first low) sh.seen)) (λ w. no_flush w a c va width sign)
     (λ w may.
     let held = both_held u a c o m next q b' first second low high ar.late (words_apart first second ar.apart) x y w g.tells inside may in
     (λ i. only (Answer.Value (extended sign width (number_in (sym held.0 i + 2 ^ 64 * sym held.1 i) (first % 8) width))))
-    ∙ load_as w a c va width sign sh.walk sh.second (reached_as width (Ok (at.Words first second))) sh.reach_is))
+    ∙ load_as w a c va width sign sh.walk sh.second (reached_as width (Ok (at.Words first second))) sh.reach_is)
+    (awaits_stepped (exec_pages (Need.Load va width sign) sh.walk sh.second) u a middle next q Load second 0 high y
+    (awaits_stepped (exec_pages (Need.Load va width sign) sh.walk sh.second) u a ar.late m next Load first 0 low x (ar.awaits tt))))
 
 -- a device's register
 device_served : (o : Own) (p m : Shown) (b b' : Book) (c : Arch) (va width pa : ℕ) (sign : Bool) (u : Setup) (a : ℕ) (l : Log) (found : Option ℕ) → device_value pa width ≡ found → CanAccess b p → Wants o c (Need.Load va width sign)
@@ -168,24 +175,33 @@ pub reach_ends : (p m : Shown) (b b' : Book) (c : Arch) (kind : Kind) (va width 
 reach_ends p m b b' c kind va width section x (by_one t call none e) = subst IsEnd (sym e) (first_ends kind va width section t)
 reach_ends p m b b' c kind va width section x (by_two mid between t first call some y) = subst IsEnd (sym y.result_is) (second_ends kind (second_va va) first section y.found)
 
+-- given up before the bytes were touched
+pub unreached_given_up : (o : Own) (p m : Shown) (b b' : Book) (c : Arch) (va width : ℕ) (x : Result Place Got) (kind : Kind) (need : Need) (u : Setup) (a : ℕ) (l : Log) → CanAccess b p → Wants o c need → Tells o p b (regime c) u a l
+    → access_of need ≡ Some (record { kind = kind; va = va; width = width }) → Arrived o m b' c kind va width x u a l → Ends u a l (Settles (given_up o) m b' (regime c) u a)
+unreached_given_up o p m b b' c va width x kind need u a l can wants t is ar =
+    ends_then u a l ar.late (Settles (given_up o) m b' (regime c) u a) ar.grows
+    (give_up o m b' (regime c) c need ar.made.walks u a ar.late ar.tells ar.clear wants (hart_there o p b c u a l can t)
+    (subst (λ (w : Option Wanted). SeenMade u.layout.pages a c w ar.made.walks ar.late) (sym is) ar.made.seen)
+    (subst (λ (w : Option Wanted). AwaitsBut (of_store w (λ y. pages_walked y ar.made.walks)) u a ar.late) (sym is) ar.made.awaits))
+
 unreached_served : (o : Own) (p m : Shown) (b b' : Book) (c : Arch) (va width : ℕ) (sign : Bool) (got : Got) (u : Setup) (a : ℕ) (l : Log) → CanAccess b p → Wants o c (Need.Load va width sign) → Tells o p b (regime c) u a l
     → IsEnd (Err got) → Arrived o m b' c Kind.Load va width (Err got) u a l → Ends u a l (Served o got m b' (regime c) u a)
 unreached_served o p m b b' c va width sign (gets.Done answer) u a l can wants t k ar = absurd k
 unreached_served o p m b b' c va width sign (gets.Fault cause tval) u a l can wants t k ar = answered o p m b b' c va width sign (Err (gets.Fault cause tval)) (Answer.Fault cause tval) u a l can wants t ar tt (λ memory. refl)
-unreached_served o p m b b' c va width sign (gets.Lost word seen found) u a l can wants t k ar = record { late = ar.late; grows = ar.grows; holds = ar.tells }
-unreached_served o p m b b' c va width sign gets.NeedsSection u a l can wants t k ar = record { late = ar.late; grows = ar.grows; holds = ar.tells }
-unreached_served o p m b b' c va width sign (gets.Busy busy) u a l can wants t k ar = record { late = ar.late; grows = ar.grows; holds = ar.tells }
+unreached_served o p m b b' c va width sign (gets.Lost word seen found) u a l can wants t k ar = unreached_given_up o p m b b' c va width (Err (gets.Lost word seen found)) Kind.Load (Need.Load va width sign) u a l can wants t refl ar
+unreached_served o p m b b' c va width sign gets.NeedsSection u a l can wants t k ar = unreached_given_up o p m b b' c va width (Err gets.NeedsSection) Kind.Load (Need.Load va width sign) u a l can wants t refl ar
+unreached_served o p m b b' c va width sign (gets.Busy busy) u a l can wants t k ar = unreached_given_up o p m b b' c va width (Err (gets.Busy busy)) Kind.Load (Need.Load va width sign) u a l can wants t refl ar
 
 pub loads_serve : LoadsServe
 loads_serve p q b b' c va width sign section got w can told (in_word {mid} {pa} {word} reached x e) = λ o wants u a l rests. let t = rests.tells in
     subst (λ (g : Got). Ends u a l (Served o g q b' (regime c) u a)) (sym e)
-    (word_served o p mid q b b' c va width pa word sign u a l can wants t (arrived o p mid b b' c Kind.Load va width section (Ok (at.Word pa)) u a l w can.beside t reached) x)
+    (word_served o p mid q b b' c va width pa word sign u a l can wants t (arrived o p mid b b' c Kind.Load va width section (Ok (at.Word pa)) u a l w can.beside t rests.settled reached) x)
 loads_serve p q b b' c va width sign section got w can told (over_words {mid} {next} {first} {second} {low} {high} reached x y e) = λ o wants u a l rests. let t = rests.tells in
     subst (λ (g : Got). Ends u a l (Served o g q b' (regime c) u a)) (sym e)
-    (words_served o p mid next q b b' c va width first second low high sign u a l can wants t (arrived o p mid b b' c Kind.Load va width section (Ok (at.Words first second)) u a l w can.beside t reached)
+    (words_served o p mid next q b b' c va width first second low high sign u a l can wants t (arrived o p mid b b' c Kind.Load va width section (Ok (at.Words first second)) u a l w can.beside t rests.settled reached)
     (section_reached p mid b b' c Kind.Load va width section (Ok (at.Words first second)) reached (told (words_sectioned p mid b b' c Kind.Load va width first second section reached))) x y)
 loads_serve p q b b' c va width sign section got w can told (on_device {pa} reached e) = λ o wants u a l rests. let t = rests.tells in
     subst (λ (g : Got). Ends u a l (Served o g q b' (regime c) u a)) (sym e)
-    (device_served o p q b b' c va width pa sign u a l (device_value pa width) refl can wants t (arrived o p q b b' c Kind.Load va width section (Ok (at.Device pa)) u a l w can.beside t reached))
+    (device_served o p q b b' c va width pa sign u a l (device_value pa width) refl can wants t (arrived o p q b b' c Kind.Load va width section (Ok (at.Device pa)) u a l w can.beside t rests.settled reached))
 loads_serve p q b b' c va width sign section got w can told (unreached reached) = λ o wants u a l rests. let t = rests.tells in
-    unreached_served o p q b b' c va width sign got u a l can wants t (reach_ends p q b b' c Kind.Load va width section (Err got) reached) (arrived o p q b b' c Kind.Load va width section (Err got) u a l w can.beside t reached)
+    unreached_served o p q b b' c va width sign got u a l can wants t (reach_ends p q b b' c Kind.Load va width section (Err got) reached) (arrived o p q b b' c Kind.Load va width section (Err got) u a l w can.beside t rests.settled reached)

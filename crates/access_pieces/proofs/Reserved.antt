@@ -26,9 +26,10 @@ use Rattle.guest_access.specs.Atomics.{held_word, old_number, on_none, on_word, 
 use Rattle.guest_access.specs.Reaching.{CanAccess}
 use Rattle.guest_access.specs.Stepping.{HasStepped}
 use Rattle.access_pieces.specs.Laws.{ConditionalsServe, ReservesServe}
-use Rattle.access_pieces.specs.Serving.{Served, Tells, Wants}
+use Rattle.access_pieces.specs.Serving.{Served, Settles, Tells, Wants}
+use Rattle.access_pieces.proofs.Awaited.{exec_pages}
 use Rattle.access_pieces.proofs.Atomic.{Atomic, Come, aligned_seen, come, unplaced_served}
-use Rattle.access_pieces.proofs.Executing.{exchange_held, held_here, load_of, loaded_in, lost_in, quiet_exec, step_at}
+use Rattle.access_pieces.proofs.Executing.{awaits_stepped, exchange_held, held_here, load_of, loaded_in, lost_in, quiet_exec, step_at}
 use Rattle.access_pieces.proofs.Loads.{hart_there}
 use Rattle.access_pieces.proofs.Writing.{exchange_due, exchange_may, write_exec, wrote}
 
@@ -50,24 +51,25 @@ reserved_as memory va pa word wide low held = (λ i. only (Answer.LrValue (exten
 
 reserve_served : (o : Own) (p m q : Shown) (b b' : Book) (c : Arch) (va pa word : ℕ) (wide : Bool) (u : Setup) (a : ℕ) (l : Log) → CanAccess b p → Wants o c (Need.Lr va wide) → Tells o p b (regime c) u a l
     → Come c (Need.Lr va wide) Kind.Load va wide (λ memory at. lr_outcome memory va wide at) (reserve c va wide) o m b' pa u a l → HasStepped Load pa 0 word m q
-    → Ends u a l (Tells (own_executed (only (Answer.LrValue (extended true (width_of wide) (old_number pa wide word)) (record { pa = pa; wide = wide; word = word }))) o) q b' (regime c) u a)
+    → Ends u a l (Settles (own_executed (only (Answer.LrValue (extended true (width_of wide) (old_number pa wide word)) (record { pa = pa; wide = wide; word = word }))) o) q b' (regime c) u a)
 reserve_served o p m q b b' c va pa word wide u a l can wants t k x =
     let answer = Answer.LrValue (extended true (width_of wide) (old_number pa wide word)) (record { pa = pa; wide = wide; word = word }) in
     let y = loaded_in o m q b' (regime c) pa word u a k.late k.tells x in
     let late = made (load_of m pa word) ∷ k.late in
-    ends_then u a l late (Tells (own_executed (only answer) o) q b' (regime c) u a) (grows_then u a l k.late k.grows y.grows)
+    ends_then u a l late (Settles (own_executed (only answer) o) q b' (regime c) u a) (grows_then u a l k.late k.grows y.grows)
     (quiet_exec o q b' (regime c) c (Need.Lr va wide) answer k.walk k.walk u a late y.tells y.clear wants (hart_there o p b c u a l can t)
     (aligned_seen c (Need.Lr va wide) Kind.Load va wide (λ memory at. lr_outcome memory va wide at) (reserve c va wide) u.layout.pages a k.walk late k.aligned
     (seen_quietly u.layout.pages a c Kind.Load va k.walk (load_of m pa word ∷ []) k.late k.seen)) (λ w. (reserve c va wide).calm w a)
-    (λ w may. reserved_as w.memory va pa word wide k.above (held_here u a k.late m q pa word w x may) ∙ sym (k.performed w)))
+    (λ w may. reserved_as w.memory va pa word wide k.above (held_here u a k.late m q pa word w x may) ∙ sym (k.performed w))
+    (awaits_stepped (exec_pages (Need.Lr va wide) k.walk k.walk) u a k.late m q Load pa 0 word x k.awaits))
 
 pub reserves_serve : ReservesServe
 reserves_serve p q b b' c va wide got can (on_word {mid} {pa} {word} placed x e) = λ o wants u a l rests.
     subst (λ (g : Got). Ends u a l (Served o g q b' (regime c) u a)) (sym e)
     (reserve_served o p mid q b b' c va pa word wide u a l can wants rests.tells
-    (come c (Need.Lr va wide) Kind.Load va wide (λ memory at. lr_outcome memory va wide at) (reserve c va wide) o p mid b b' pa u a l can.beside rests.tells placed) x)
+    (come c (Need.Lr va wide) Kind.Load va wide (λ memory at. lr_outcome memory va wide at) (reserve c va wide) o p mid b b' pa u a l can.beside rests.tells rests.settled placed) x)
 reserves_serve p q b b' c va wide got can (on_none placed) = λ o wants u a l rests.
-    unplaced_served c (Need.Lr va wide) Kind.Load va wide (λ memory at. lr_outcome memory va wide at) (reserve c va wide) o p q b b' got u a l can.beside (hart_there o p b c u a l can rests.tells) wants rests.tells rests.idle placed
+    unplaced_served c (Need.Lr va wide) Kind.Load va wide (λ memory at. lr_outcome memory va wide at) (reserve c va wide) o p q b b' got u a l can.beside (hart_there o p b c u a l can rests.tells) wants rests.tells rests.idle rests.settled placed
 
 -- whether a hold stands
 stands_in : (memory : Memory) (hold : Option Hold) (pa word : ℕ) (wide : Bool) → 2 ^ 31 ≤ pa → held_word hold pa wide ≡ Some word → hold_stands memory (One (ram_word pa) (pa % 8) (width_of wide)) wide hold ≡ (word == memory (ram_word pa))
@@ -110,47 +112,48 @@ refused_as memory c va pa value wide e =
 module _ (o : Own) (p m q : Shown) (b b' : Book) (c : Arch) (va pa word value found : ℕ) (wide : Bool) (u : Setup) (a : ℕ) (l : Log) (can : CanAccess b p) (wants : Wants o c (Need.Sc va wide value)) (t : Tells o p b (regime c) u a l)
     (k : Come c (Need.Sc va wide value) Kind.Store va wide (sc_at c va wide value) (conditional c va wide value) o m b' pa u a l) (hold : held_word c.hold pa wide ≡ Some word)
     (x : HasStepped (Exchange word) pa (replaced word (pa % 8) (width_of wide) value) found m q) where
-  exchanged_by : (same : Bool) → (found == word) ≡ same → Ends u a l (Tells (own_executed (only (Answer.Sc same)) o) q b' (regime c) u a)
+  exchanged_by : (same : Bool) → (found == word) ≡ same → Ends u a l (Settles (own_executed (only (Answer.Sc same)) o) q b' (regime c) u a)
   exchanged_by true e =
       let is : found ≡ word = eqb-true found word e in
       let new = replaced word (pa % 8) (width_of wide) value in
       let s = step_at m (Exchange word) pa new found in
-      ends_then u a l k.late (Tells (own_executed (only (Answer.Sc true)) o) q b' (regime c) u a) k.grows
+      ends_then u a l k.late (Settles (own_executed (only (Answer.Sc true)) o) q b' (regime c) u a) k.grows
       (write_exec o m q b' (regime c) c (Need.Sc va wide value) (Answer.Sc true) k.walk k.walk (Exchange word) pa new found new u a k.late k.tells x (exchange_may u a k.late m q pa word new found k.tells.tells.clear x)
       (exchange_due k.late m q pa word new found is x) wants (hart_there o p b c u a l can t)
       (aligned_seen c (Need.Sc va wide value) Kind.Store va wide (sc_at c va wide value) (conditional c va wide value) u.layout.pages a k.walk (made s ∷ k.late) k.aligned
       (seen_quietly u.layout.pages a c Kind.Store va k.walk (s ∷ []) k.late k.seen)) (λ w. (conditional c va wide value).calm w a)
-      (λ w may. stored_as w.memory c va pa word value wide k.above hold (exchange_held u a k.late m q pa word new found w x may ∙ is) ∙ sym (k.performed w)))
+      (λ w may. stored_as w.memory c va pa word value wide k.above hold (exchange_held u a k.late m q pa word new found w x may ∙ is) ∙ sym (k.performed w)) k.awaits)
   exchanged_by false e =
       let other : word ≢ found = λ is. absurd (true≢false (sym (eq-eqb found word (sym is)) ∙ e)) in
       let new = replaced word (pa % 8) (width_of wide) value in
       let s = step_at m (Exchange word) pa new found in
       let y = lost_in o m q b' (regime c) pa word new found u a k.late k.tells other x in
       let late = made s ∷ k.late in
-      ends_then u a l late (Tells (own_executed (only (Answer.Sc false)) o) q b' (regime c) u a) (grows_then u a l k.late k.grows y.grows)
+      ends_then u a l late (Settles (own_executed (only (Answer.Sc false)) o) q b' (regime c) u a) (grows_then u a l k.late k.grows y.grows)
       (quiet_exec o q b' (regime c) c (Need.Sc va wide value) (Answer.Sc false) k.walk k.walk u a late y.tells y.clear wants (hart_there o p b c u a l can t)
       (aligned_seen c (Need.Sc va wide value) Kind.Store va wide (sc_at c va wide value) (conditional c va wide value) u.layout.pages a k.walk late k.aligned
       (seen_quietly u.layout.pages a c Kind.Store va k.walk (s ∷ []) k.late k.seen)) (λ w. (conditional c va wide value).calm w a)
       (λ w may. refused_as w.memory c va pa value wide (stands_in w.memory c.hold pa word wide k.above hold
-      ∙ ap (λ n. word == n) (exchange_held u a k.late m q pa word new found w x may) ∙ ne_eqb word found other) ∙ sym (k.performed w)))
+      ∙ ap (λ n. word == n) (exchange_held u a k.late m q pa word new found w x may) ∙ ne_eqb word found other) ∙ sym (k.performed w))
+      (awaits_stepped (exec_pages (Need.Sc va wide value) k.walk k.walk) u a k.late m q (Exchange word) pa new found x k.awaits))
 
 refused_served : (o : Own) (p m : Shown) (b b' : Book) (c : Arch) (va pa value : ℕ) (wide : Bool) (u : Setup) (a : ℕ) (l : Log) → CanAccess b p → Wants o c (Need.Sc va wide value) → Tells o p b (regime c) u a l
     → Come c (Need.Sc va wide value) Kind.Store va wide (sc_at c va wide value) (conditional c va wide value) o m b' pa u a l → held_word c.hold pa wide ≡ None
-    → Ends u a l (Tells (own_executed (only (Answer.Sc false)) o) m b' (regime c) u a)
+    → Ends u a l (Settles (own_executed (only (Answer.Sc false)) o) m b' (regime c) u a)
 refused_served o p m b b' c va pa value wide u a l can wants t k hold =
-    ends_then u a l k.late (Tells (own_executed (only (Answer.Sc false)) o) m b' (regime c) u a) k.grows
+    ends_then u a l k.late (Settles (own_executed (only (Answer.Sc false)) o) m b' (regime c) u a) k.grows
     (quiet_exec o m b' (regime c) c (Need.Sc va wide value) (Answer.Sc false) k.walk k.walk u a k.late k.tells k.clear wants (hart_there o p b c u a l can t)
     (aligned_seen c (Need.Sc va wide value) Kind.Store va wide (sc_at c va wide value) (conditional c va wide value) u.layout.pages a k.walk k.late k.aligned k.seen) (λ w. (conditional c va wide value).calm w a)
-    (λ w may. refused_as w.memory c va pa value wide (stands_not w.memory c.hold pa wide k.above hold) ∙ sym (k.performed w)))
+    (λ w may. refused_as w.memory c va pa value wide (stands_not w.memory c.hold pa wide k.above hold) ∙ sym (k.performed w)) k.awaits)
 
 pub conditionals_serve : ConditionalsServe
 conditionals_serve p q b b' c va wide value got can (with_hold {mid} {pa} {word} {found} placed hold x e) = λ o wants u a l rests.
     subst (λ (g : Got). Ends u a l (Served o g q b' (regime c) u a)) (sym e)
     (exchanged_by o p mid q b b' c va pa word value found wide u a l can wants rests.tells
-    (come c (Need.Sc va wide value) Kind.Store va wide (sc_at c va wide value) (conditional c va wide value) o p mid b b' pa u a l can.beside rests.tells placed) hold x (found == word) refl)
+    (come c (Need.Sc va wide value) Kind.Store va wide (sc_at c va wide value) (conditional c va wide value) o p mid b b' pa u a l can.beside rests.tells rests.settled placed) hold x (found == word) refl)
 conditionals_serve p q b b' c va wide value got can (without_hold {pa} placed hold e) = λ o wants u a l rests.
     subst (λ (g : Got). Ends u a l (Served o g q b' (regime c) u a)) (sym e)
     (refused_served o p q b b' c va pa value wide u a l can wants rests.tells
-    (come c (Need.Sc va wide value) Kind.Store va wide (sc_at c va wide value) (conditional c va wide value) o p q b b' pa u a l can.beside rests.tells placed) hold)
+    (come c (Need.Sc va wide value) Kind.Store va wide (sc_at c va wide value) (conditional c va wide value) o p q b b' pa u a l can.beside rests.tells rests.settled placed) hold)
 conditionals_serve p q b b' c va wide value got can (on_none placed) = λ o wants u a l rests.
-    unplaced_served c (Need.Sc va wide value) Kind.Store va wide (sc_at c va wide value) (conditional c va wide value) o p q b b' got u a l can.beside (hart_there o p b c u a l can rests.tells) wants rests.tells rests.idle placed
+    unplaced_served c (Need.Sc va wide value) Kind.Store va wide (sc_at c va wide value) (conditional c va wide value) o p q b b' got u a l can.beside (hart_there o p b c u a l can rests.tells) wants rests.tells rests.idle rests.settled placed

@@ -43,16 +43,16 @@ draw_reached p m b b' c kind va width section x (by_two mid between t first call
 pub stores_serve : StoresServe
 stores_serve p q b b' c va width value section got w few can told may (in_word {mid} {pa} reached x) = λ o wants u a l rests.
     word_stored o p mid q b b' c va width pa value u a l can wants rests.tells few (word_within p mid b b' c Kind.Store va width pa section reached)
-    (arrived o p mid b b' c Kind.Store va width section (Ok (at.Word pa)) u a l w can.beside rests.tells reached) got x
+    (arrived o p mid b b' c Kind.Store va width section (Ok (at.Word pa)) u a l w can.beside rests.tells rests.settled reached) got x
 stores_serve p q b b' c va width value section got w few can told may (over_words {mid} {first} {second} reached x e) = λ o wants u a l rests.
     subst (λ (g : Got). Ends u a l (Served o g q b' (regime c) u a)) (sym e)
-    (words_stored o p mid q b b' c va width first second value u a l can wants rests.tells (arrived o p mid b b' c Kind.Store va width section (Ok (at.Words first second)) u a l w can.beside rests.tells reached) x
+    (words_stored o p mid q b b' c va width first second value u a l can wants rests.tells (arrived o p mid b b' c Kind.Store va width section (Ok (at.Words first second)) u a l w can.beside rests.tells rests.settled reached) x
     (section_reached p mid b b' c Kind.Store va width section (Ok (at.Words first second)) reached (told (words_sectioned p mid b b' c Kind.Store va width first second section reached))))
 stores_serve p q b b' c va width value section got w few can told may (on_device {mid} {pa} {done} reached x e) = λ o wants u a l rests.
-    let ar = arrived o p mid b b' c Kind.Store va width section (Ok (at.Device pa)) u a l w can.beside rests.tells reached in
+    let ar = arrived o p mid b b' c Kind.Store va width section (Ok (at.Device pa)) u a l w can.beside rests.tells rests.settled reached in
     subst (λ (g : Got). Ends u a l (Served o g q b' (regime c) u a)) (sym e)
     (device_stored_on o p mid b b' c va width pa value u a l can wants rests.tells ar done q
     (ap (λ (r : List Step). may_draw r) ar.tells.tells.stands.is ∙ draw_reached p mid b b' c Kind.Store va width section (Ok (at.Device pa)) reached ∙ may) x)
 stores_serve p q b b' c va width value section got w few can told may (unreached reached) = λ o wants u a l rests.
     store_unreached o p q b b' c va width value got u a l can wants rests.tells (reach_ends p q b b' c Kind.Store va width section (Err got) reached)
-    (arrived o p q b b' c Kind.Store va width section (Err got) u a l w can.beside rests.tells reached)
+    (arrived o p q b b' c Kind.Store va width section (Err got) u a l w can.beside rests.tells rests.settled reached)

@@ -48,10 +48,12 @@ use Rattle.guest_access.specs.Stepping.{HasStepped}
 use Rattle.guest_access.specs.Storing.{HasExchanged, HasStoredIn, HasStoredOver, lost, part, replaced_both, whole}
 use Rattle.guest_access.proofs.Areas.{ram_off}
 use Rattle.guest_access.proofs.Keeping.{goes_stepped}
-use Rattle.access_pieces.specs.Serving.{Served, Tells, Wants, view}
+use Rattle.access_pieces.specs.Serving.{AwaitsNone, Served, Settles, Tells, Wants, given_up, view}
+use Rattle.access_pieces.proofs.Awaited.{exec_pages, exec_paid, given_up_pages}
+use Rattle.access_pieces.proofs.GivenUp.{give_up, made_quietly}
 use Rattle.access_pieces.proofs.Arrived.{Arrived, IsReached, reached_as}
-use Rattle.access_pieces.proofs.Executing.{exchange_held, load_of, loaded_in, lost_in, quiet_exec, step_at}
-use Rattle.access_pieces.proofs.Loads.{IsEnd, hart_there}
+use Rattle.access_pieces.proofs.Executing.{awaits_stepped, exchange_held, load_of, loaded_in, lost_in, quiet_exec, step_at}
+use Rattle.access_pieces.proofs.Loads.{IsEnd, hart_there, unreached_given_up}
 use Rattle.access_pieces.proofs.Sections.{InSection, section_stepped, words_apart}
 use Rattle.access_pieces.proofs.Writing.{exchange_due, exchange_may, store_due, store_may, write_exec, wrote}
 
@@ -73,20 +75,20 @@ seen_more pages a c va width walk second r l x = record {
 
 -- an answer without another step
 pub store_answered : (o : Own) (p m : Shown) (b b' : Book) (c : Arch) (va width value : ℕ) (x : Result Place Got) (answer : Answer) (u : Setup) (a : ℕ) (l : Log) → CanAccess b p → Wants o c (Need.Store va width value) → Tells o p b (regime c) u a l
-    → Arrived o m b' c Kind.Store va width x u a l → IsReached x → ((memory : Memory) (room : ℕ) → only answer ≡ store_outcome memory room va width value (reached_as width x)) → Ends u a l (Tells (own_executed (only answer) o) m b' (regime c) u a)
+    → Arrived o m b' c Kind.Store va width x u a l → IsReached x → ((memory : Memory) (room : ℕ) → only answer ≡ store_outcome memory room va width value (reached_as width x)) → Ends u a l (Settles (own_executed (only answer) o) m b' (regime c) u a)
 store_answered o p m b b' c va width value x answer u a l can wants t ar ok is =
     let sh = ar.shows ok in
-    ends_then u a l ar.late (Tells (own_executed (only answer) o) m b' (regime c) u a) ar.grows
+    ends_then u a l ar.late (Settles (own_executed (only answer) o) m b' (regime c) u a) ar.grows
     (quiet_exec o m b' (regime c) c (Need.Store va width value) answer sh.walk sh.second u a ar.late ar.tells ar.clear wants (hart_there o p b c u a l can t) sh.seen (λ w. no_store_flush w a c va width value)
-    (λ w may. is w.memory w.room ∙ store_as w a c va width value sh.walk sh.second (reached_as width x) sh.reach_is))
+    (λ w may. is w.memory w.room ∙ store_as w a c va width value sh.walk sh.second (reached_as width x) sh.reach_is) (ar.awaits ok))
 
 pub store_unreached : (o : Own) (p m : Shown) (b b' : Book) (c : Arch) (va width value : ℕ) (got : Got) (u : Setup) (a : ℕ) (l : Log) → CanAccess b p → Wants o c (Need.Store va width value) → Tells o p b (regime c) u a l
     → IsEnd (Err got) → Arrived o m b' c Kind.Store va width (Err got) u a l → Ends u a l (Served o got m b' (regime c) u a)
 store_unreached o p m b b' c va width value (gets.Done answer) u a l can wants t k ar = absurd k
 store_unreached o p m b b' c va width value (gets.Fault cause tval) u a l can wants t k ar = store_answered o p m b b' c va width value (Err (gets.Fault cause tval)) (Answer.Fault cause tval) u a l can wants t ar tt (λ memory room. refl)
-store_unreached o p m b b' c va width value (gets.Lost word seen found) u a l can wants t k ar = record { late = ar.late; grows = ar.grows; holds = ar.tells }
-store_unreached o p m b b' c va width value gets.NeedsSection u a l can wants t k ar = record { late = ar.late; grows = ar.grows; holds = ar.tells }
-store_unreached o p m b b' c va width value (gets.Busy busy) u a l can wants t k ar = record { late = ar.late; grows = ar.grows; holds = ar.tells }
+store_unreached o p m b b' c va width value (gets.Lost word seen found) u a l can wants t k ar = unreached_given_up o p m b b' c va width (Err (gets.Lost word seen found)) Kind.Store (Need.Store va width value) u a l can wants t refl ar
+store_unreached o p m b b' c va width value gets.NeedsSection u a l can wants t k ar = unreached_given_up o p m b b' c va width (Err gets.NeedsSection) Kind.Store (Need.Store va width value) u a l can wants t refl ar
+store_unreached o p m b b' c va width value (gets.Busy busy) u a l can wants t k ar = unreached_given_up o p m b b' c va width (Err (gets.Busy busy)) Kind.Store (Need.Store va width value) u a l can wants t refl ar
 
 -- within a word
 whole_word : (old pa width value : ℕ) → width ≡ 8 → pa % 8 + width ≤ 8 → old < 2 ^ 64 → value < 2 ^ 64 → value ≡ replaced old (pa % 8) width value
@@ -102,33 +104,42 @@ module _ (o : Own) (p m q : Shown) (b b' : Book) (c : Arch) (va width pa value :
   written_as : (w : Surroundings) (new : ℕ) → new ≡ replaced (w.memory (ram_word pa)) (pa % 8) width value → wrote (ram_word pa) new Answer.Nothing ≡ perform w a c (ar.shows tt).walk (ar.shows tt).second (Need.Store va width value)
   written_as w new e = ap (λ n. wrote (ram_word pa) n Answer.Nothing) e ∙ store_as w a c va width value (ar.shows tt).walk (ar.shows tt).second (reached_as width (Ok (at.Word pa))) (ar.shows tt).reach_is
 
-  whole_stored : width ≡ 8 → HasStepped Store pa value 0 m q → Ends u a l (Tells (own_executed (only Answer.Nothing) o) q b' (regime c) u a)
+  whole_stored : width ≡ 8 → HasStepped Store pa value 0 m q → Ends u a l (Settles (own_executed (only Answer.Nothing) o) q b' (regime c) u a)
   whole_stored eight x =
       let sh = ar.shows tt in
       let s = step_at m Store pa value 0 in
-      ends_then u a l ar.late (Tells (own_executed (only Answer.Nothing) o) q b' (regime c) u a) ar.grows
+      ends_then u a l ar.late (Settles (own_executed (only Answer.Nothing) o) q b' (regime c) u a) ar.grows
       (write_exec o m q b' (regime c) c (Need.Store va width value) Answer.Nothing sh.walk sh.second Store pa value 0 value u a ar.late ar.tells x (store_may u a ar.late m q pa value ar.tells.tells.clear x) (store_due u a ar.late m q pa value ar.tells.tells.clear x)
       wants (hart_there o p b c u a l can t) (seen_more u.layout.pages a c va width sh.walk sh.second (s ∷ []) ar.late sh.seen) (λ w. no_store_flush w a c va width value)
-      (λ w may. written_as w value (whole_word (w.memory (ram_word pa)) pa width value eight within (may.words (ram_word pa)) few)))
+      (λ w may. written_as w value (whole_word (w.memory (ram_word pa)) pa width value eight within (may.words (ram_word pa)) few)) (ar.awaits tt))
 
-  part_stored : (seen found : ℕ) → HasExchanged pa seen (replaced seen (pa % 8) width value) found m q → found ≡ seen → Ends u a l (Tells (own_executed (only Answer.Nothing) o) q b' (regime c) u a)
+  part_stored : (seen found : ℕ) → HasExchanged pa seen (replaced seen (pa % 8) width value) found m q → found ≡ seen → Ends u a l (Settles (own_executed (only Answer.Nothing) o) q b' (regime c) u a)
   part_stored seen found x same =
       let sh = ar.shows tt in
       let new = replaced seen (pa % 8) width value in
       let y = loaded_in o m x.mid b' (regime c) pa seen u a ar.late ar.tells x.loads in
       let middle = made (load_of m pa seen) ∷ ar.late in
       let s = step_at x.mid (Exchange seen) pa new found in
-      ends_then u a l middle (Tells (own_executed (only Answer.Nothing) o) q b' (regime c) u a) (grows_then u a l ar.late ar.grows y.grows)
+      ends_then u a l middle (Settles (own_executed (only Answer.Nothing) o) q b' (regime c) u a) (grows_then u a l ar.late ar.grows y.grows)
       (write_exec o x.mid q b' (regime c) c (Need.Store va width value) Answer.Nothing sh.walk sh.second (Exchange seen) pa new found new u a middle y.tells x.exchanges (exchange_may u a middle x.mid q pa seen new found y.tells.tells.clear x.exchanges)
       (exchange_due middle x.mid q pa seen new found same x.exchanges) wants (hart_there o p b c u a l can t) (seen_more u.layout.pages a c va width sh.walk sh.second (s ∷ load_of m pa seen ∷ []) ar.late sh.seen) (λ w. no_store_flush w a c va width value)
-      (λ w may. written_as w new (ap (λ n. replaced n (pa % 8) width value) (sym (exchange_held u a middle x.mid q pa seen new found w x.exchanges may ∙ same)))))
+      (λ w may. written_as w new (ap (λ n. replaced n (pa % 8) width value) (sym (exchange_held u a middle x.mid q pa seen new found w x.exchanges may ∙ same))))
+      (awaits_stepped (exec_pages (Need.Store va width value) sh.walk sh.second) u a ar.late m x.mid Load pa 0 seen x.loads (ar.awaits tt)))
 
-  lost_stored : (seen found : ℕ) → HasExchanged pa seen (replaced seen (pa % 8) width value) found m q → found ≢ seen → Ends u a l (Tells o q b' (regime c) u a)
+  lost_stored : (seen found : ℕ) → HasExchanged pa seen (replaced seen (pa % 8) width value) found m q → found ≢ seen → Ends u a l (Settles (given_up o) q b' (regime c) u a)
   lost_stored seen found x other =
       let y = loaded_in o m x.mid b' (regime c) pa seen u a ar.late ar.tells x.loads in
       let middle = made (load_of m pa seen) ∷ ar.late in
       let z = lost_in o x.mid q b' (regime c) pa seen (replaced seen (pa % 8) width value) found u a middle y.tells (λ e. other (sym e)) x.exchanges in
-      record { late = made (step_at x.mid (Exchange seen) pa (replaced seen (pa % 8) width value) found) ∷ middle; grows = grows_then u a l middle (grows_then u a l ar.late ar.grows y.grows) z.grows; holds = z.tells }
+      let need = Need.Store va width value in
+      let new = replaced seen (pa % 8) width value in
+      let s = step_at x.mid (Exchange seen) pa new found in
+      let late = made s ∷ middle in
+      let pages = given_up_pages need ar.made.walks in
+      ends_then u a l late (Settles (given_up o) q b' (regime c) u a) (grows_then u a l middle (grows_then u a l ar.late ar.grows y.grows) z.grows)
+      (give_up o q b' (regime c) c need ar.made.walks u a late z.tells z.clear wants (hart_there o p b c u a l can t)
+      (made_quietly u.layout.pages a c (access_of need) ar.made.walks (s ∷ load_of m pa seen ∷ []) ar.late ar.made.seen)
+      (awaits_stepped pages u a middle x.mid q (Exchange seen) pa new found x.exchanges (awaits_stepped pages u a ar.late m x.mid Load pa 0 seen x.loads ar.made.awaits)))
 
   pub word_stored : (got : Got) → HasStoredIn pa width value m q got → Ends u a l (Served o got q b' (regime c) u a)
   word_stored got (whole eight x e) = subst (λ (g : Got). Ends u a l (Served o g q b' (regime c) u a)) (sym e) (whole_stored eight x)
@@ -202,7 +213,7 @@ module _ (o : Own) (p m q : Shown) (b b' : Book) (c : Arch) (va width first seco
   in_log : (r : Shown) (k : Log) → writers.Stands o (view r) u a k → InSection r → IsInSection u.layout a (steps_of k)
   in_log r k st i = subst (IsInSection u.layout a) (sym st.is) (subst (λ (n : ℕ). IsInSection u.layout n r.own.steps) (sym st.actor) (subst (λ (y : Layout). IsInSection y r.own.actor r.own.steps) (sym st.layout) i))
 
-  pub words_stored : Ends u a l (Tells (own_executed (only Answer.Nothing) o) q b' (regime c) u a)
+  pub words_stored : Ends u a l (Settles (own_executed (only Answer.Nothing) o) q b' (regime c) u a)
   unfolding both_stored s1 s2 s3 s4 low_new high_new crossing
   words_stored =
       let sh = ar.shows tt in
@@ -237,13 +248,20 @@ module _ (o : Own) (p m q : Shown) (b b' : Book) (c : Arch) (va width first seco
       let left : unstored k4 ≡ None = ap (λ v. unstored_next v Store 0 [] (unstored k3)) x.stores_second.name ∙ ap (λ v. unstored_next v Store 0 [] (unstored k2)) x.stores_first.name ∙ g.tells.tells.none_left in
       let due : owed k4 ≡ joins (ram_word first) low_new (ram_word second) high_new = owed_named k3 s4 (Ram ((second - 2 ^ 31) / 8)) Store x.stores_second.name refl
       ∙ ap (λ d. owes_store d (ram_word second) high_new) (owed_named k2 s3 (Ram ((first - 2 ^ 31) / 8)) Store x.stores_first.name refl ∙ store_owes u a k2 g.tells.tells.clear (ram_word first) low_new) in
-      subst (λ (y : Own). Ends u a l (Tells y q b' (regime c) u a)) (crossing_own o (ram_word first) low_new (ram_word second) high_new) (record {
+      let pages = exec_pages need sh.walk sh.second in
+      let settled : AwaitsNone u a (did e ∷ k4) = exec_paid o c need sh.walk sh.second out u a k4 wants st4.part_is
+      (awaits_stepped pages u a k3 x.three q Store second high_new 0 x.stores_second (awaits_stepped pages u a k2 x.two x.three Store first low_new 0 x.stores_first
+      (awaits_stepped pages u a (made s1 ∷ ar.late) x.one x.two Load second 0 x.high x.loads_second (awaits_stepped pages u a ar.late m x.one Load first 0 x.low x.loads_first (ar.awaits tt))))) in
+      subst (λ (y : Own). Ends u a l (Settles y q b' (regime c) u a)) (crossing_own o (ram_word first) low_new (ram_word second) high_new) (record {
         late = did e ∷ k4;
         grows = grows;
         holds = record {
-          tells = tells_did o (view q) u a k4 e st4 refl (places_did k4 e drawn) ((λ i. unstored_did (due i) (did_of e).bytes (left i)));
-          fills = g.tells.fills;
-          goes = fills_stay x.three q b' (regime c) (flushes_in a k3) g.tells.fills (s4 ∷ []) (ap (λ (y : Shown). y.own.steps) x.stores_second.step) (same_goes 1 IsOfRam x.three q ram_off (goes_stepped Store second high_new 0 x.three q x.stores_second))
-              (fills_stay x.two x.three b' (regime c) (flushes_in a k2) g.tells.fills (s3 ∷ []) (ap (λ (y : Shown). y.own.steps) x.stores_first.step) (same_goes 1 IsOfRam x.two x.three ram_off (goes_stepped Store first low_new 0 x.two x.three x.stores_first)) g.tells.goes);
+          settled = settled;
+          tells = record {
+            tells = tells_did o (view q) u a k4 e st4 refl (places_did k4 e drawn) ((λ i. unstored_did (due i) (did_of e).bytes (left i)));
+            fills = g.tells.fills;
+            goes = fills_stay x.three q b' (regime c) (flushes_in a k3) g.tells.fills (s4 ∷ []) (ap (λ (y : Shown). y.own.steps) x.stores_second.step) (same_goes 1 IsOfRam x.three q ram_off (goes_stepped Store second high_new 0 x.three q x.stores_second))
+                (fills_stay x.two x.three b' (regime c) (flushes_in a k2) g.tells.fills (s3 ∷ []) (ap (λ (y : Shown). y.own.steps) x.stores_first.step) (same_goes 1 IsOfRam x.two x.three ram_off (goes_stepped Store first low_new 0 x.two x.three x.stores_first)) g.tells.goes);
+          };
         };
       })

@@ -42,6 +42,7 @@ use Rattle.turn_pieces.specs.Grows.{makes, does, Ends, IsClear}
 use Rattle.turn_pieces.specs.Writers as writers
 use Rattle.turn_pieces.proofs.Accesses.{step_stands}
 use Rattle.turn_pieces.proofs.Offers.{draw_owes, free}
+use Rattle.turn_pieces.proofs.Unmarked.{is_other, unmarked_step}
 use Rattle.turn_pieces.proofs.Writers.{clear_did, owed_named, part_did, tells_did}
 use Rattle.guest_access.specs.declared.reaching.Place.TheVariants as at
 use Rattle.guest_access.specs.Reaching.{CanAccess}
@@ -49,7 +50,8 @@ use Rattle.guest_access.specs.Storing.{gives_stored}
 use Rattle.guest_access.proofs.Areas.{devices_off}
 use Rattle.guest_devices.specs.Output.{HasPut, HasFoundFull, HasPrinted, HasSetStop, full, put}
 use Rattle.guest_devices.specs.Stores.{HasStoredOn, IsOfDevices, ends, ignores, outside, puts_byte}
-use Rattle.access_pieces.specs.Serving.{Served, Tells, Wants, view}
+use Rattle.access_pieces.specs.Serving.{AwaitsNone, Served, Settles, Tells, Wants, view}
+use Rattle.access_pieces.proofs.Awaited.{awaits_step, exec_pages, exec_paid}
 use Rattle.access_pieces.proofs.Arrived.{Arrived}
 use Rattle.access_pieces.proofs.Loads.{hart_there}
 use Rattle.access_pieces.proofs.StoresInRam.{no_store_flush, seen_more, store_answered, store_as}
@@ -73,6 +75,9 @@ not_below n le = grind (arith, le)
 
 module _ (o : Own) (p m : Shown) (b b' : Book) (c : Arch) (va width pa value : ℕ) (u : Setup) (a : ℕ) (l : Log) (can : CanAccess b p) (wants : Wants o c (Need.Store va width value)) (t : Tells o p b (regime c) u a l)
     (ar : Arrived o m b' c Kind.Store va width (Ok (at.Device pa)) u a l) where
+  abbrev need : Need
+  need = Need.Store va width value
+
   -- the execution at such a log
   fits_at : (out : Outcome) (r : List Step) → ((w : Surroundings) → MayBe u a (writers.quietly r ar.late) w → out ≡ device_store_outcome w.room va (device_stored pa width value)) → IsExec u a (writers.quietly r ar.late) (ar.shows tt).walk (ar.shows tt).second out o
   fits_at out r is =
@@ -93,7 +98,7 @@ module _ (o : Own) (p m : Shown) (b b' : Book) (c : Arch) (va width pa value : �
   cut_none : (ds bs : List ℕ) → ds ≡ [] → bs ≡ [] → IsCutShort ds bs
   cut_none ds bs d e = subst (λ x. IsCutShort x bs) (sym d) (subst (IsCutShort []) (sym e) (record { none = λ _. refl; some = λ i k. cc }))
 
-  stop_served : (reason stands : Reason) (q : Shown) → device_stored pa width value ≡ Some (DeviceStore.Ends reason) → HasSetStop reason stands m q → Ends u a l (Tells (own_executed (only Answer.Nothing) o) q b' (regime c) u a)
+  stop_served : (reason stands : Reason) (q : Shown) → device_stored pa width value ≡ Some (DeviceStore.Ends reason) → HasSetStop reason stands m q → Ends u a l (Settles (own_executed (only Answer.Nothing) o) q b' (regime c) u a)
   stop_served reason stands q is x =
       let sh = ar.shows tt in
       let v = x.exchanges in
@@ -106,7 +111,7 @@ module _ (o : Own) (p m : Shown) (b b' : Book) (c : Arch) (va width pa value : �
       let left : unstored k ≡ None = ap (λ w. unstored_next w (Exchange 0) x.found [] (unstored ar.late)) v.name ∙ ar.tells.tells.none_left in
       let due : owed k ≡ gives (reason_word reason) = owed_named ar.late s Stop (Exchange 0) v.name refl in
       let fit = fits_at (gave reason) (s ∷ []) (λ w z. ap (device_store_outcome w.room va) (sym is)) in
-      subst (λ (y : Own). Ends u a l (Tells y q b' (regime c) u a)) (gave_own o reason) (record {
+      subst (λ (y : Own). Ends u a l (Settles y q b' (regime c) u a)) (gave_own o reason) (record {
         late = did e ∷ k;
         grows = does e (makes s ar.grows (free u a ar.late ar.tells.tells.clear s Stop (Exchange 0) v.name refl refl tt tt)) (record {
           own = refl;
@@ -118,7 +123,10 @@ module _ (o : Own) (p m : Shown) (b b' : Book) (c : Arch) (va width pa value : �
             fills_it = cut_none (places k) (bytes k) drawn none;
           });
         });
-        holds = record { tells = tells_did o (view q) u a k e st refl refl ((λ i. unstored_did (due i) [] (left i))); fills = ar.tells.fills; goes = fills_on m q Stop (Exchange 0) (reason_word reason) x.found (flushes_in a ar.late) ar.tells.fills v tt ar.tells.goes };
+        holds = record {
+          tells = record { tells = tells_did o (view q) u a k e st refl refl ((λ i. unstored_did (due i) [] (left i))); fills = ar.tells.fills; goes = fills_on m q Stop (Exchange 0) (reason_word reason) x.found (flushes_in a ar.late) ar.tells.fills v tt ar.tells.goes };
+          settled = exec_paid o c need sh.walk sh.second (gave reason) u a k wants st.part_is (awaits_step (exec_pages need sh.walk sh.second) u a ar.late s (ap is_other v.name) (ar.awaits tt));
+        };
       })
 
   -- a byte finds no place
@@ -136,7 +144,7 @@ module _ (o : Own) (p m : Shown) (b b' : Book) (c : Arch) (va width pa value : �
       by i k = (omega (arith, le, k), omega (arith, le, k))
 
   full_served : (byte place : ℕ) (stands : Reason) (mid q : Shown) → may_draw (steps_of ar.late) ≡ true → device_stored pa width value ≡ Some (DeviceStore.PutsByte byte) → HasFoundFull place m mid → HasSetStop Reason.OutFull stands mid q
-      → Ends u a l (Tells (own_executed (only Answer.Nothing) o) q b' (regime c) u a)
+      → Ends u a l (Settles (own_executed (only Answer.Nothing) o) q b' (regime c) u a)
   full_served byte place stands mid q may is x y =
       let sh = ar.shows tt in
       let v = x.draws in
@@ -160,7 +168,10 @@ module _ (o : Own) (p m : Shown) (b b' : Book) (c : Arch) (va width pa value : �
       let room : w.room ≡ console_places - place = may.room place (ap first_drawn drawn) in
       let zero_room : w.room ≡ 0 = let le = x.beyond in omega (arith, room, le) in
       sym (ap (device_store_outcome w.room va) is ∙ ap (λ n. print_outcome n (byte ∷ []) Answer.Nothing) zero_room)) in
-      subst (λ (g : Own). Ends u a l (Tells g q b' (regime c) u a)) (gave_own o Reason.OutFull) (record {
+      let pages = exec_pages need sh.walk sh.second in
+      let settled : AwaitsNone u a (did e ∷ k) = exec_paid o c need sh.walk sh.second (gave Reason.OutFull) u a k wants st.part_is
+      (awaits_step pages u a k1 d (ap is_other z.name) (awaits_step pages u a ar.late s (ap is_other v.name) (ar.awaits tt))) in
+      subst (λ (g : Own). Ends u a l (Settles g q b' (regime c) u a)) (gave_own o Reason.OutFull) (record {
         late = did e ∷ k;
         grows = does e (makes d (makes s ar.grows (free u a ar.late ar.tells.tells.clear s Cons Add v.name refl refl tt may)) (free u a k1 clear d Stop (Exchange 0) z.name refl refl tt tt)) (record {
           own = refl;
@@ -173,14 +184,17 @@ module _ (o : Own) (p m : Shown) (b b' : Book) (c : Arch) (va width pa value : �
           });
         });
         holds = record {
-          tells = tells_did o (view q) u a k e st refl refl ((λ i. unstored_did (due i) [] (left i)));
-          fills = ar.tells.fills;
-          goes = fills_on mid q Stop (Exchange 0) 4 y.found (flushes_in a k1) ar.tells.fills z tt (fills_on m mid Cons Add 1 place (flushes_in a ar.late) ar.tells.fills v tt ar.tells.goes);
+          settled = settled;
+          tells = record {
+            tells = tells_did o (view q) u a k e st refl refl ((λ i. unstored_did (due i) [] (left i)));
+            fills = ar.tells.fills;
+            goes = fills_on mid q Stop (Exchange 0) 4 y.found (flushes_in a k1) ar.tells.fills z tt (fills_on m mid Cons Add 1 place (flushes_in a ar.late) ar.tells.fills v tt ar.tells.goes);
+          };
         };
       })
 
   -- a byte is printed at its draw, and stored
-  put_served : (byte : ℕ) (q : Shown) → may_draw (steps_of ar.late) ≡ true → device_stored pa width value ≡ Some (DeviceStore.PutsByte byte) → HasPut byte m q → Ends u a l (Tells (own_executed (only Answer.Nothing) o) q b' (regime c) u a)
+  put_served : (byte : ℕ) (q : Shown) → may_draw (steps_of ar.late) ≡ true → device_stored pa width value ≡ Some (DeviceStore.PutsByte byte) → HasPut byte m q → Ends u a l (Settles (own_executed (only Answer.Nothing) o) q b' (regime c) u a)
   put_served byte q may is x =
       let sh = ar.shows tt in
       let v = x.draws in
@@ -201,7 +215,9 @@ module _ (o : Own) (p m : Shown) (b b' : Book) (c : Arch) (va width pa value : �
       let some_room : 1 ≤ w.room = let less = x.less in omega (arith, room, less) in
       sym (ap (device_store_outcome w.room va) is ∙ ap (λ (g : Bool). if g then printed byte else record (only Answer.Nothing) { bytes = take w.room (byte ∷ []); reason = Some Reason.OutFull }) (le-leb 1 w.room some_room))) in
       let clear : owed (made d ∷ k2) ≡ nothing = owed_named k2 d (Console x.place) Store z.name refl ∙ ap owes_byte some in
-      subst (λ (g : Own). Ends u a l (Tells g q b' (regime c) u a)) (printed_own o byte) (record {
+      let settled : AwaitsNone u a k2 = exec_paid o c need sh.walk sh.second (printed byte) u a k1 wants st1.part_is
+      (awaits_step (exec_pages need sh.walk sh.second) u a ar.late s (ap is_other v.name) (ar.awaits tt)) in
+      subst (λ (g : Own). Ends u a l (Settles g q b' (regime c) u a)) (printed_own o byte) (record {
         late = made d ∷ k2;
         grows = makes d (does e (makes s ar.grows (free u a ar.late ar.tells.tells.clear s Cons Add v.name refl refl tt may)) (record {
           own = refl;
@@ -215,25 +231,28 @@ module _ (o : Own) (p m : Shown) (b b' : Book) (c : Arch) (va width pa value : �
         }))
             (free u a k2 (clear_did (owed k1)) d (Console x.place) Store z.name refl (inl (byte, some, refl, refl)) tt tt);
         holds = record {
+          settled = λ page. unmarked_step u a page k2 d (ap is_other z.name) ∙ settled page;
           tells = record {
-            stands = step_stands (own_executed (printed byte) o) (view x.mid) (view q) u a k2 d (ap view z.step) st2;
-            clear = subst IsClear (sym clear) tt;
-            none_drawn = ap (λ w. drawn_next w Store 0 (places k2)) z.name;
-            none_left = ap (λ w. unstored_next w Store 0 [] (unstored k2)) z.name;
+            tells = record {
+              stands = step_stands (own_executed (printed byte) o) (view x.mid) (view q) u a k2 d (ap view z.step) st2;
+              clear = subst IsClear (sym clear) tt;
+              none_drawn = ap (λ w. drawn_next w Store 0 (places k2)) z.name;
+              none_left = ap (λ w. unstored_next w Store 0 [] (unstored k2)) z.name;
+            };
+            fills = ar.tells.fills;
+            goes = fills_on x.mid q (Console x.place) Store (byte + 2 ^ 8) 0 (flushes_in a k1) ar.tells.fills z tt (fills_on m x.mid Cons Add 1 x.place (flushes_in a ar.late) ar.tells.fills v tt ar.tells.goes);
           };
-          fills = ar.tells.fills;
-          goes = fills_on x.mid q (Console x.place) Store (byte + 2 ^ 8) 0 (flushes_in a k1) ar.tells.fills z tt (fills_on m x.mid Cons Add 1 x.place (flushes_in a ar.late) ar.tells.fills v tt ar.tells.goes);
         };
       })
 
-  printed_served : (byte : ℕ) (q : Shown) → may_draw (steps_of ar.late) ≡ true → device_stored pa width value ≡ Some (DeviceStore.PutsByte byte) → HasPrinted byte m q → Ends u a l (Tells (own_executed (only Answer.Nothing) o) q b' (regime c) u a)
+  printed_served : (byte : ℕ) (q : Shown) → may_draw (steps_of ar.late) ≡ true → device_stored pa width value ≡ Some (DeviceStore.PutsByte byte) → HasPrinted byte m q → Ends u a l (Settles (own_executed (only Answer.Nothing) o) q b' (regime c) u a)
   printed_served byte q may is (put x) = put_served byte q may is x
   printed_served byte q may is (full {mid} place stands x y) = full_served byte place stands mid q may is x y
 
   pub device_stored_on : (result : Option (Unit {0})) (q : Shown) → may_draw (steps_of ar.late) ≡ true → HasStoredOn pa width value result m q → Ends u a l (Served o (gives_stored va result) q b' (regime c) u a)
   device_stored_on result q may (puts_byte byte is x) = printed_served byte q may is x
   device_stored_on result q may (ends reason stands is x) = stop_served reason stands q is x
-  device_stored_on result q may (ignores is same) = subst (λ (y : Shown). Ends u a l (Tells (own_executed (only Answer.Nothing) o) y b' (regime c) u a)) (sym same)
+  device_stored_on result q may (ignores is same) = subst (λ (y : Shown). Ends u a l (Settles (own_executed (only Answer.Nothing) o) y b' (regime c) u a)) (sym same)
       (store_answered o p m b b' c va width value (Ok (at.Device pa)) Answer.Nothing u a l can wants t ar tt (λ memory room. ap (device_store_outcome room va) (sym is)))
-  device_stored_on result q may (outside is same) = subst (λ (y : Shown). Ends u a l (Tells (own_executed (only (Answer.Fault (access_fault Kind.Store) va)) o) y b' (regime c) u a)) (sym same)
+  device_stored_on result q may (outside is same) = subst (λ (y : Shown). Ends u a l (Settles (own_executed (only (Answer.Fault (access_fault Kind.Store) va)) o) y b' (regime c) u a)) (sym same)
       (store_answered o p m b b' c va width value (Ok (at.Device pa)) (Answer.Fault (access_fault Kind.Store) va) u a l can wants t ar tt (λ memory room. ap (device_store_outcome room va) (sym is)))

@@ -2,7 +2,7 @@
 ghost use Rattle.access_pieces.specs.Laws.{AmosServe, ConditionalsServe, LoadsServe, ReservesServe, StoresServe, TranslationsLead};
 
 /// A load is served: behind its steps the log has the load's execution, with the answer that the reference machine gives in every state that
-/// fits the steps; or nothing was executed.
+/// fits the steps; or the instruction is given up there, with the walks that were made. Where no mark waited for its store before, none does.
 pub fn law_loads()
     ensures { LoadsServe }
 {}
@@ -13,8 +13,7 @@ pub fn law_reservations()
     ensures conditionals { ConditionalsServe }
 {}
 
-/// So is an atomic operation: its execution stands at the one operation that does it, or at its exchange; where that was lost nothing was
-/// executed.
+/// So is an atomic operation: its execution stands at the one operation that does it, or at its exchange; where that was lost it is given up.
 pub fn law_operations()
     ensures { AmosServe }
 {}
@@ -26,7 +25,7 @@ pub fn law_stores()
 {}
 
 /// A translation owes no event: each log that told of the port before goes on by its steps alone to one that tells of the port behind, and shows
-/// a walk that leads to where the answer does, unless the lock was held.
+/// a walk that leads to where the answer does, unless the lock was held. It marks no page but that of a store's answer.
 pub fn law_translations()
     ensures { TranslationsLead }
 {}
