@@ -1,7 +1,7 @@
 -- A whole word of the file.
 use Rattle.std.proofs.Common.{◌∙◌}
-use Rattle.ref_machine.proofs.Loading.{word_of_file}
-use Rattle.ref_machine.proofs.loader.word_over.Goals as goal
+use Rattle.image_words.proofs.Reached.{word_of_file}
+use Rattle.image_words.proofs.word_over.Goals as goal
 
 pub returns-in-Some : goal.returns-in-Some
 returns-in-Some c =
