@@ -1,0 +1,45 @@
+-- Laws of a hart's own table: what flushes are to its log, and when it hits.
+use Rattle.std.specs.Prelude.{◌≡◌, ℕ, false}
+use Rattle.rv64_priv.specs.declared.state.Kind.{Kind}
+use Rattle.rv64_priv.specs.declared.state.Regime.{Regime}
+use Rattle.rv64_priv.specs.Flush.{Full}
+use Rattle.machine_model.specs.Own.{Own}
+use Rattle.machine_model.specs.State.{Setup}
+use Rattle.guest_ram.specs.Areas.{IsOfTable}
+use Rattle.guest_ram.specs.Ports.{Shown, GoesBy}
+use Rattle.tlb_entry.specs.declared.books.Book.{Book}
+use Rattle.tlb_entry.specs.Compare.{field_of, hit}
+use Rattle.tlb_entry.specs.Kept.{kept}
+use Rattle.tlb_table.specs.Lookups.{slot}
+use Rattle.kept_fills.specs.Beside.{IsBeside}
+use Rattle.flush.specs.Flushed.{HasBeenBusy, HasFlushed, HasFlushedAll}
+use Rattle.tlb_fill.specs.Answered.{HitsKept}
+use Rattle.tlb_fill.specs.Stepping.{HasTranslated}
+use Rattle.tlb_fill.specs.declared.translation.Translated.{Translated}
+use Rattle.turn_pieces.specs.Grows.{Part}
+use Rattle.turn_pieces.specs.Log.{Log}
+use Rattle.access_pieces.specs.Serving.{Rests}
+use Rattle.table_pieces.specs.Flushing.{IsNotDue, IsPlaced, flush_made}
+use Rattle.table_pieces.specs.Hitting.{HasHitTable, HasMissedTable}
+
+-- a flush of everything is in each log that told of the port before, whatever regime comes behind it
+abbrev pub FullIsPlaced : Type 0
+FullIsPlaced = (p q : Shown) (b b' : Book) (r later : Regime) (most : ℕ) → IsBeside b p → HasFlushedAll p q b b' → GoesBy most IsOfTable p q
+    → (o : Own) (u : Setup) (a : ℕ) (l : Log) → Rests o p b r u a l → IsNotDue o u a l → IsPlaced o p q b' later Full u a l
+
+-- a flush of pages, which may have been made full
+abbrev pub PagesArePlaced : Type 0
+PagesArePlaced = (p q : Shown) (b b' : Book) (r : Regime) (page count most : ℕ) → IsBeside b p → HasFlushed b.large p q b b' page count → GoesBy most IsOfTable p q
+    → (o : Own) (u : Setup) (a : ℕ) (l : Log) → Rests o p b r u a l → IsNotDue o u a l → IsPlaced o p q b' r (flush_made b.large page count) u a l
+
+-- one that found the lock held
+abbrev pub BusyRests : Type 0
+BusyRests = (p q : Shown) (b b' : Book) (r : Regime) (holder : ℕ) → IsBeside b p → HasBeenBusy holder p q b b' → (o : Own) → Part (Rests o p b r) (Rests o q b' r)
+
+-- the table as the hart's own stores left it hits, or doesn't
+abbrev pub HitsAreLoads : Type 0
+HitsAreLoads = (p q : Shown) (b b' : Book) (r : Regime) (va : ℕ) (kind : Kind) (t : Translated) → HitsKept p b.size r va kind → HasTranslated p q b b' r va kind t → HasHitTable p q b b' va kind t
+
+abbrev pub MissesWalk : Type 0
+MissesWalk = (p q : Shown) (b b' : Book) (r : Regime) (va : ℕ) (kind : Kind) (t : Translated) → hit (kept p.own.actor (slot va b.size) (field_of kind) p.own.steps) va r.user ≡ false
+    → HasTranslated p q b b' r va kind t → HasMissedTable p q b b' r va kind t
