@@ -20,7 +20,7 @@ use Rattle.tlb_fill.specs.declared.translation.Translated.{Translated}
 use Rattle.table_pieces.specs.Laws.{HitsAreLoads, MissesWalk}
 
 -- a word that the monitor may have marked hits as what is kept of it
-last_hits : (f : TlbField) (last found va : ℕ) (user : Bool) → IsLastField f last found → hit found va user ≡ hit (kept_word f last) va user
+pub last_hits : (f : TlbField) (last found va : ℕ) (user : Bool) → IsLastField f last found → hit found va user ≡ hit (kept_word f last) va user
 last_hits Read last found va user e = ap (λ n. hit n va user) e
 last_hits Code last found va user e = ap (λ n. hit n va user) e
 last_hits Page last found va user e = ap (λ n. hit n va user) e

@@ -1,8 +1,11 @@
 -- Laws of a hart's own table: what flushes are to its log, and when it hits.
-use Rattle.std.specs.Prelude.{◌≡◌, ℕ, false}
+use Rattle.std.specs.Prelude.{◌≡◌, ◌≢◌, ℕ, false}
 use Rattle.rv64_priv.specs.declared.state.Kind.{Kind}
 use Rattle.rv64_priv.specs.declared.state.Regime.{Regime}
 use Rattle.rv64_priv.specs.Flush.{Full}
+use Rattle.step_laws.specs.declared.map.TlbField.{TlbField}
+use Rattle.step_laws.specs.Map.{Tlb}
+use Rattle.step_laws.specs.Tables.{size_of, table_word}
 use Rattle.machine_model.specs.Own.{Own}
 use Rattle.machine_model.specs.State.{Setup}
 use Rattle.guest_ram.specs.Areas.{IsOfTable}
@@ -13,7 +16,7 @@ use Rattle.tlb_entry.specs.Kept.{kept}
 use Rattle.tlb_table.specs.Lookups.{slot}
 use Rattle.kept_fills.specs.Beside.{IsBeside}
 use Rattle.flush.specs.Flushed.{HasBeenBusy, HasFlushed, HasFlushedAll}
-use Rattle.tlb_fill.specs.Answered.{HitsKept}
+use Rattle.tlb_fill.specs.Answered.{HitsKept, HitsNow}
 use Rattle.tlb_fill.specs.Stepping.{HasTranslated}
 use Rattle.tlb_fill.specs.declared.translation.Translated.{Translated}
 use Rattle.turn_pieces.specs.Grows.{Part}
@@ -35,6 +38,16 @@ PagesArePlaced = (p q : Shown) (b b' : Book) (r : Regime) (page count most : ℕ
 -- one that found the lock held
 abbrev pub BusyRests : Type 0
 BusyRests = (p q : Shown) (b b' : Book) (r : Regime) (holder : ℕ) → IsBeside b p → HasBeenBusy holder p q b b' → (o : Own) → Part (Rests o p b r) (Rests o q b' r)
+
+-- behind an answer the table hits
+abbrev pub AnswersHit : Type 0
+AnswersHit = (p q : Shown) (b b' : Book) (r : Regime) (va : ℕ) (kind : Kind) (t : Translated) → IsBeside b p → HasTranslated p q b b' r va kind t → HitsNow q b.size r va kind t
+
+-- no slot changes but the address's own, and the table has as many as before
+abbrev pub OthersStay : Type 0
+OthersStay = (p q : Shown) (b b' : Book) (r : Regime) (va : ℕ) (kind : Kind) (t : Translated) → IsBeside b p → HasTranslated p q b b' r va kind t
+    → (size_of q.own.actor q.own.steps ≡ size_of p.own.actor p.own.steps)
+    × ((other : ℕ) (field : TlbField) → other ≢ slot va b.size → table_word (Tlb q.own.actor other field) q.own.steps ≡ table_word (Tlb p.own.actor other field) p.own.steps)
 
 -- the table as the hart's own stores left it hits, or doesn't
 abbrev pub HitsAreLoads : Type 0

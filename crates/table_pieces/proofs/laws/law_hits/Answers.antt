@@ -1,3 +1,4 @@
+use Rattle.table_pieces.proofs.Behind.{answers_hit, others_stay}
 use Rattle.table_pieces.proofs.Kept.{hits_are_loads, misses_walk}
 use Rattle.table_pieces.proofs.laws.law_hits.Goals as goal
 
@@ -6,3 +7,9 @@ returns-clause-hits c = hits_are_loads
 
 pub returns-clause-misses : goal.returns-clause-misses
 returns-clause-misses c = misses_walk
+
+pub returns-clause-answers : goal.returns-clause-answers
+returns-clause-answers c = answers_hit
+
+pub returns-clause-others : goal.returns-clause-others
+returns-clause-others c = others_stay
