@@ -1,3 +1,4 @@
 pub mod Placing
 pub mod Kept
 pub mod Behind
+pub mod Owing

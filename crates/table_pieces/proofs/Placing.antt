@@ -1,6 +1,7 @@
 -- The steps of a flush in its hart's log, with its event behind the last.
-use Rattle.std.proofs.Common.{◌≡◌, ◌≢◌, ℕ, ◌+◌, ◌<◌, Bool, true, false, true≢false, List, [], ◌∷◌, ◌++◌, length, None, refl, sym, ap, subst, ◌∙◌, arith, inl, eq-eqb}
-use Rattle.std.specs.Prelude.{◌==◌, ◌&&◌, ◌||◌, IsTrue, if◌then◌else◌}
+use Rattle.std.proofs.Common.{◌≡◌, ◌≢◌, ℕ, ◌+◌, ◌<◌, ◌≤◌, Bool, true, false, true≢false, List, [], ◌∷◌, ◌++◌, length, None, refl, sym, ap, subst, ◌∙◌, arith, inl, eq-eqb, leb-true, le-leb}
+use Rattle.std.proofs.lemmas.Bool.{and_from, and_parts}
+use Rattle.std.specs.Prelude.{nat_le, ◌==◌, ◌&&◌, ◌||◌, IsTrue, if◌then◌else◌}
 use Rattle.rv64_priv.specs.Flush.{Flush, Full, Pages}
 use Rattle.rv64_priv.specs.declared.state.Regime.{Regime}
 use Rattle.step_laws.specs.declared.steps.Step.{Step}
@@ -10,9 +11,11 @@ use Rattle.step_laws.specs.declared.words.Layout.{Layout}
 use Rattle.step_laws.specs.Discipline.{IsAway, IsUnlock}
 use Rattle.step_laws.specs.Harts.{Taking, idle as not_taking, taking, taking_next}
 use Rattle.step_laws.specs.Map.{Word, Lock, Place, Size, Tlb, name_of}
-use Rattle.machine_model.specs.Event.{Flushes, did_of}
+use Rattle.machine_model.specs.Event.{Event, Flushes, did_of}
+use Rattle.machine_model.specs.Lawful.{Flushed}
 use Rattle.machine_model.specs.Own.{Own}
-use Rattle.machine_model.specs.Run.{includes, is_due}
+use Rattle.machine_model.specs.Past.{this}
+use Rattle.machine_model.specs.Run.{flushes, includes, is_due}
 use Rattle.machine_model.specs.State.{Setup}
 use Rattle.guest_ram.specs.Areas.{IsOfTable}
 use Rattle.guest_ram.specs.Plays.{step_of}
@@ -124,6 +127,22 @@ or_true : (b : Bool) → (b || true) ≡ true
 or_true true = refl
 or_true false = refl
 
+-- what a flush includes is flushed behind it
+flushed_page : (what : Flush) (first count page : ℕ) → IsTrue (includes what (Pages first count)) → first ≤ page → page < first + count → includes what (Pages page 1) ≡ true
+flushed_page Full first count page asks le lt = refl
+flushed_page (Pages q n) first count page asks le lt =
+    let k = and_parts (nat_le q first) (nat_le (first + count) (q + n)) asks in
+    let low : q ≤ first = leb-true q first k.0 in
+    let high : first + count ≤ q + n = leb-true (first + count) (q + n) k.1 in
+    and_from (nat_le q page) (nat_le (page + 1) (q + n)) (le-leb q page (omega (arith, low, le))) (le-leb (page + 1) (q + n) (omega (arith, high, lt)))
+
+own_flush : (a : ℕ) (what asked : Flush) → includes what asked ≡ true → IsTrue (flushes a asked (Flushes a what))
+own_flush a what asked is = ap (λ (y : Bool). y && includes what asked) (eq-eqb a a refl) ∙ is
+
+flushed_now : (a : ℕ) (what asked : Flush) (run : List Event) → IsTrue (includes what asked) → Flushed (Flushes a what ∷ run) a a asked
+flushed_now a what Full run asks = this (own_flush a what Full asks)
+flushed_now a what (Pages first count) run asks = λ page le lt. this (own_flush a what (Pages page 1) (flushed_page what first count page asks le lt))
+
 quiet_flush : (h : ℕ) (what : Flush) → IsQuiet (Flushes h what)
 quiet_flush h what = record { does = record { entry_is = refl; bytes_are = refl; reason_is = refl; starts_is = refl; stops_is = refl }; begins_not = refl }
 
@@ -174,14 +193,12 @@ module _ (p q : Shown) (b b' : Book) (r later : Regime) (what : Flush) (most : �
           idle = ap pays idle;
           settled = λ page. unmarked_did u a page k e (awaited_quietly u a page [] goes.added l (all_marks p goes.added goes.allowed) refl ∙ x.settled page);
         };
+        flushes = λ asked asks. flushed_now a what asked (events_of k) asks;
         begins = λ full waits. ap (λ (y : Bool). has_flushed_all a k || (y && ((a == a) && includes what Full))) (waits_on a k unlocks
             ∙ ap (λ (r : List Step). is_waiting (taking a r)) t.stands.is ∙ ap is_waiting (fold_goes (taking_next a) not_taking most IsOfTable p q (λ w op arg answer z on. table_taking a w op arg answer z on) goes)
-            ∙ sym (ap (λ (r : List Step). is_waiting (taking a r)) x.tells.tells.stands.is) ∙ waits) ∙ ap (λ (y : Bool). has_flushed_all a k || y) (covers Full full) ∙ or_true (has_flushed_all a k);
-        serves = λ source place request fetched asks. inl (covers (flush_of request) asks, last_away a a source place k unlocks, fetched_quietly p a source place request goes.added l goes.allowed fetched);
+            ∙ sym (ap (λ (r : List Step). is_waiting (taking a r)) x.tells.tells.stands.is) ∙ waits) ∙ ap (λ (y : Bool). has_flushed_all a k || y) (own_flush a what Full full) ∙ or_true (has_flushed_all a k);
+        serves = λ source place request fetched asks. inl (own_flush a what (flush_of request) asks, last_away a a source place k unlocks, fetched_quietly p a source place request goes.added l goes.allowed fetched);
       }
-    where
-      covers : (asked : Flush) → IsTrue (includes what asked) → ((a == a) && includes what asked) ≡ true
-      covers asked asks = ap (λ (y : Bool). y && includes what asked) (eq-eqb a a refl) ∙ asks
 
 pub full_is_placed : FullIsPlaced
 full_is_placed p q b b' r later most can f goes o u a l x still =

@@ -1,20 +1,22 @@
 -- Laws of a hart's own table: what flushes are to its log, and when it hits.
-use Rattle.std.specs.Prelude.{◌≡◌, ◌≢◌, ℕ, false}
+use Rattle.std.specs.Prelude.{◌≡◌, ◌≢◌, ℕ, ◌<◌, false}
 use Rattle.rv64_priv.specs.declared.state.Kind.{Kind}
 use Rattle.rv64_priv.specs.declared.state.Regime.{Regime}
 use Rattle.rv64_priv.specs.Flush.{Full}
 use Rattle.step_laws.specs.declared.map.TlbField.{TlbField}
 use Rattle.step_laws.specs.Map.{Tlb}
-use Rattle.step_laws.specs.Tables.{size_of, table_word}
+use Rattle.step_laws.specs.Discipline.{IsDisciplined}
+use Rattle.step_laws.specs.Layout.{IsInLimits}
+use Rattle.step_laws.specs.Tables.{held_lock, size_of, table_word}
 use Rattle.machine_model.specs.Own.{Own}
 use Rattle.machine_model.specs.State.{Setup}
 use Rattle.guest_ram.specs.Areas.{IsOfTable}
-use Rattle.guest_ram.specs.Ports.{Shown, GoesBy}
+use Rattle.guest_ram.specs.Ports.{Shown, GoesBy, layout_of}
 use Rattle.tlb_entry.specs.declared.books.Book.{Book}
 use Rattle.tlb_entry.specs.Compare.{field_of, hit}
 use Rattle.tlb_entry.specs.Kept.{kept}
 use Rattle.tlb_table.specs.Lookups.{slot}
-use Rattle.kept_fills.specs.Beside.{IsBeside}
+use Rattle.kept_fills.specs.Beside.{IsBeside, OwesNothing}
 use Rattle.flush.specs.Flushed.{HasBeenBusy, HasFlushed, HasFlushedAll}
 use Rattle.tlb_fill.specs.Answered.{HitsKept, HitsNow}
 use Rattle.tlb_fill.specs.Stepping.{HasTranslated}
@@ -38,6 +40,10 @@ PagesArePlaced = (p q : Shown) (b b' : Book) (r : Regime) (page count most : ℕ
 -- one that found the lock held
 abbrev pub BusyRests : Type 0
 BusyRests = (p q : Shown) (b b' : Book) (r : Regime) (holder : ℕ) → IsBeside b p → HasBeenBusy holder p q b b' → (o : Own) → Part (Rests o p b r) (Rests o q b' r)
+
+-- a hart whose whole record keeps to the discipline owes no words to clear while it holds no lock
+abbrev pub DisciplineClears : Type 0
+DisciplineClears = (p : Shown) → p.own.actor < (layout_of p).harts → IsInLimits (layout_of p) → IsDisciplined (layout_of p) p.own.actor p.own.runs p.own.steps → held_lock p.own.steps ≡ 0 → OwesNothing p
 
 -- behind an answer the table hits
 abbrev pub AnswersHit : Type 0

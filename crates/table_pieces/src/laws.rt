@@ -1,5 +1,5 @@
 // Laws of a hart's own table: each function's contract is its law.
-ghost use Rattle.table_pieces.specs.Laws.{AnswersHit, BusyRests, FullIsPlaced, HitsAreLoads, MissesWalk, OthersStay, PagesArePlaced};
+ghost use Rattle.table_pieces.specs.Laws.{AnswersHit, BusyRests, DisciplineClears, FullIsPlaced, HitsAreLoads, MissesWalk, OthersStay, PagesArePlaced};
 
 /// The steps of a flush owe no event, and the one that frees the lock is the place of the flush's event. Each log that told of the port before goes
 /// on to one that tells of the port behind, with that event placed: registers, held word and count are as they were, no walk that the book keeps
@@ -18,4 +18,9 @@ pub fn law_hits()
     ensures misses { MissesWalk }
     ensures answers { AnswersHit }
     ensures others { OthersStay }
+{}
+
+/// A hart whose record keeps to the discipline has cleared all words that its stores of SIZE asked for, wherever it holds no lock.
+pub fn law_clears()
+    ensures { DisciplineClears }
 {}

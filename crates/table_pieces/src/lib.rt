@@ -3,4 +3,4 @@
 
 mod laws;
 
-pub use laws::{law_flushes, law_hits};
+pub use laws::{law_clears, law_flushes, law_hits};
