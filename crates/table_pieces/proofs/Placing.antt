@@ -147,7 +147,7 @@ quiet_flush : (h : ℕ) (what : Flush) → IsQuiet (Flushes h what)
 quiet_flush h what = record { does = record { entry_is = refl; bytes_are = refl; reason_is = refl; starts_is = refl; stops_is = refl }; begins_not = refl }
 
 -- a flush of this, by steps on the table of which the last frees the lock; the book goes with its record behind them by these fills
-module _ (p q : Shown) (b b' : Book) (r later : Regime) (what : Flush) (most : ℕ) (can : IsBeside b p) (ended : HasEnded b.hart q) (goes : GoesBy most IsOfTable p q) (o : Own) (u : Setup) (a : ℕ) (l : Log) (x : Rests o p b r u a l)
+module _ (p q : Shown) (b b' : Book) (r later : Regime) (what : Flush) (most : ℕ) (can : IsBeside b p) (ended : HasEnded b.hart q) (goes : GoesBy most IsOfTable p q) (others : ℕ → Bool) (o : Own) (u : Setup) (a : ℕ) (l : Log) (x : Rests others o p b r u a l)
     (open_still : IsNotDue o u a l) (fills : List Fill) (kept : GoesWithFills q b' later (behind_flush what goes.added (flushes_in a l)) fills) where
   steps : List Step
   steps = goes.added
@@ -164,7 +164,7 @@ module _ (p q : Shown) (b b' : Book) (r later : Regime) (what : Flush) (most : �
   is_own : b.hart ≡ a
   is_own = can.book.number ∙ sym x.tells.tells.stands.actor
 
-  pub placed : IsPlaced o p q b' later what u a l
+  pub placed : IsPlaced others o p q b' later what u a l
   unfolding quiet
   placed =
       let k = quietly goes.added l in
@@ -191,7 +191,7 @@ module _ (p q : Shown) (b b' : Book) (r later : Regime) (what : Flush) (most : �
             goes = subst (λ (y : List Item). GoesWithFills q b' later y fills) items kept;
           };
           idle = ap pays idle;
-          settled = λ page. unmarked_did u a page k e (awaited_quietly u a page [] goes.added l (all_marks p goes.added goes.allowed) refl ∙ x.settled page);
+          settled = λ page free. unmarked_did u a page k e (awaited_quietly u a page [] goes.added l (all_marks p goes.added goes.allowed) refl ∙ x.settled page free);
         };
         flushes = λ asked asks. flushed_now a what asked (events_of k) asks;
         begins = λ full waits. ap (λ (y : Bool). has_flushed_all a k || (y && ((a == a) && includes what Full))) (waits_on a k unlocks
@@ -201,17 +201,17 @@ module _ (p q : Shown) (b b' : Book) (r later : Regime) (what : Flush) (most : �
       }
 
 pub full_is_placed : FullIsPlaced
-full_is_placed p q b b' r later most can f goes o u a l x still =
-    placed p q b b' r later Full most can f.ended goes o u a l x still [] (f.goes goes.added r later (flushes_in a l) x.tells.fills (ap (λ (y : Shown). y.own.steps) goes.grown) x.tells.goes)
+full_is_placed p q b b' r later most can f goes others o u a l x still =
+    placed p q b b' r later Full most can f.ended goes others o u a l x still [] (f.goes goes.added r later (flushes_in a l) x.tells.fills (ap (λ (y : Shown). y.own.steps) goes.grown) x.tells.goes)
 
 pages_placed : (p q : Shown) (b b' : Book) (r : Regime) (page count most : ℕ) → IsBeside b p → (large : Bool) → HasFlushed large p q b b' page count → GoesBy most IsOfTable p q
-    → (o : Own) (u : Setup) (a : ℕ) (l : Log) → Rests o p b r u a l → IsNotDue o u a l → IsPlaced o p q b' r (flush_made large page count) u a l
-pages_placed p q b b' r page count most can true f goes o u a l x still = full_is_placed p q b b' r r most can f goes o u a l x still
-pages_placed p q b b' r page count most can false f goes o u a l x still =
-    placed p q b b' r r (Pages page count) most can f.ended goes o u a l x still x.tells.fills (f.goes goes.added r (flushes_in a l) x.tells.fills (ap (λ (y : Shown). y.own.steps) goes.grown) x.tells.goes)
+    → (others : ℕ → Bool) (o : Own) (u : Setup) (a : ℕ) (l : Log) → Rests others o p b r u a l → IsNotDue o u a l → IsPlaced others o p q b' r (flush_made large page count) u a l
+pages_placed p q b b' r page count most can true f goes others o u a l x still = full_is_placed p q b b' r r most can f goes others o u a l x still
+pages_placed p q b b' r page count most can false f goes others o u a l x still =
+    placed p q b b' r r (Pages page count) most can f.ended goes others o u a l x still x.tells.fills (f.goes goes.added r (flushes_in a l) x.tells.fills (ap (λ (y : Shown). y.own.steps) goes.grown) x.tells.goes)
 
 pub pages_are_placed : PagesArePlaced
-pages_are_placed p q b b' r page count most can f goes o u a l x still = pages_placed p q b b' r page count most can b.large f goes o u a l x still
+pages_are_placed p q b b' r page count most can f goes others o u a l x still = pages_placed p q b b' r page count most can b.large f goes others o u a l x still
 
 -- a lock that was found held
 abbrev IsOfLock : Word → Type 0
@@ -227,7 +227,7 @@ lock_off (Lock h) t = tt
 lock_off w t = absurd t
 
 pub busy_rests : BusyRests
-busy_rests p q b b' r holder can f o u a l x =
+busy_rests p q b b' r holder can f others o u a l x =
     let m = f.found.1 in
     let s = step_of p.own.actor m.word (Exchange 0) (p.own.actor + 1) holder in
     let calm : (n : ℕ) → AreCalm n (s ∷ []) = λ n. (subst (λ v. IsCalm v (Exchange 0) holder) (sym m.name) tt, subst (λ v. IsPlain n v (Exchange 0)) (sym m.name) tt, tt) in
@@ -244,6 +244,6 @@ busy_rests p q b b' r holder can f o u a l x =
               (same_goes 1 IsOfLock p q lock_off (goes_made IsOfLock p q (Lock b.hart) (Exchange 0) (p.own.actor + 1) holder m tt)) x.tells.goes);
         };
         idle = owes_quietly a (s ∷ []) l (calm a) x.idle;
-        settled = λ page. awaited_quietly u a page [] (s ∷ []) l marks refl ∙ x.settled page;
+        settled = λ page free. awaited_quietly u a page [] (s ∷ []) l marks refl ∙ x.settled page free;
       };
     }

@@ -32,12 +32,12 @@ IsNotDue o u a l = is_due u.limit (events_of l) a o.count ≡ false
 -- The log goes on by the flush's steps alone, the last of which frees the lock, and there by its event, to one that tells of the port behind,
 -- under a regime that may be another. What is asked for of the own hart, if no more, is flushed since its last fetch; so is a request that was
 -- fetched before, and so is a hart that waits to begin
-pub record IsPlaced (o : Own) (p q : Shown) (b' : Book) (later : Regime) (what : Flush) (u : Setup) (a : ℕ) (l : Log) : Type 0 where
+pub record IsPlaced (others : ℕ → Bool) (o : Own) (p q : Shown) (b' : Book) (later : Regime) (what : Flush) (u : Setup) (a : ℕ) (l : Log) : Type 0 where
   pub added : List Step
   pub steps_are : q.own.steps ≡ added ++ p.own.steps
   pub unlocks : AtLast (IsUnlock a) (quietly added l)
   pub grows : Grows u a l (did (Flushes a what) ∷ quietly added l)
-  pub rests : Rests o q b' later u a (did (Flushes a what) ∷ quietly added l)
+  pub rests : Rests others o q b' later u a (did (Flushes a what) ∷ quietly added l)
   pub flushes : (asked : Flush) → IsTrue (includes what asked) → Flushed (events_of (did (Flushes a what) ∷ quietly added l)) a a asked
   pub begins : IsTrue (includes what Full) → is_waiting (taking a (steps_of l)) ≡ true → has_flushed_all a (did (Flushes a what) ∷ quietly added l) ≡ true
   pub serves : (source place request : ℕ) → HasFetched (Place a source place) request l → IsTrue (includes what (flush_of request))

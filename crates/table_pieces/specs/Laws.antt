@@ -1,5 +1,5 @@
 -- Laws of a hart's own table: what flushes are to its log, and when it hits.
-use Rattle.std.specs.Prelude.{◌≡◌, ◌≢◌, ℕ, ◌<◌, false}
+use Rattle.std.specs.Prelude.{◌≡◌, ◌≢◌, ℕ, ◌<◌, Bool, false}
 use Rattle.rv64_priv.specs.declared.state.Kind.{Kind}
 use Rattle.rv64_priv.specs.declared.state.Regime.{Regime}
 use Rattle.rv64_priv.specs.Flush.{Full}
@@ -30,16 +30,16 @@ use Rattle.table_pieces.specs.Hitting.{HasHitTable, HasMissedTable}
 -- a flush of everything is in each log that told of the port before, whatever regime comes behind it
 abbrev pub FullIsPlaced : Type 0
 FullIsPlaced = (p q : Shown) (b b' : Book) (r later : Regime) (most : ℕ) → IsBeside b p → HasFlushedAll p q b b' → GoesBy most IsOfTable p q
-    → (o : Own) (u : Setup) (a : ℕ) (l : Log) → Rests o p b r u a l → IsNotDue o u a l → IsPlaced o p q b' later Full u a l
+    → (others : ℕ → Bool) (o : Own) (u : Setup) (a : ℕ) (l : Log) → Rests others o p b r u a l → IsNotDue o u a l → IsPlaced others o p q b' later Full u a l
 
 -- a flush of pages, which may have been made full
 abbrev pub PagesArePlaced : Type 0
 PagesArePlaced = (p q : Shown) (b b' : Book) (r : Regime) (page count most : ℕ) → IsBeside b p → HasFlushed b.large p q b b' page count → GoesBy most IsOfTable p q
-    → (o : Own) (u : Setup) (a : ℕ) (l : Log) → Rests o p b r u a l → IsNotDue o u a l → IsPlaced o p q b' r (flush_made b.large page count) u a l
+    → (others : ℕ → Bool) (o : Own) (u : Setup) (a : ℕ) (l : Log) → Rests others o p b r u a l → IsNotDue o u a l → IsPlaced others o p q b' r (flush_made b.large page count) u a l
 
 -- one that found the lock held
 abbrev pub BusyRests : Type 0
-BusyRests = (p q : Shown) (b b' : Book) (r : Regime) (holder : ℕ) → IsBeside b p → HasBeenBusy holder p q b b' → (o : Own) → Part (Rests o p b r) (Rests o q b' r)
+BusyRests = (p q : Shown) (b b' : Book) (r : Regime) (holder : ℕ) → IsBeside b p → HasBeenBusy holder p q b b' → (others : ℕ → Bool) (o : Own) → Part (Rests others o p b r) (Rests others o q b' r)
 
 -- a hart whose whole record keeps to the discipline owes no words to clear while it holds no lock
 abbrev pub DisciplineClears : Type 0
