@@ -37,7 +37,7 @@ use Rattle.guest_access.proofs.Arms.{ArePlaced, all_placed, goes_over}
 use Rattle.access_pieces.specs.Serving.{AwaitsAtMost, Tells}
 use Rattle.access_pieces.proofs.Awaited.{AwaitsBut, given_left, given_right, is_given, pages_of}
 use Rattle.guest_access.proofs.Fills.{IsPlaced}
-use Rattle.access_pieces.proofs.Sections.{AreApart, first_apart, second_apart}
+use Rattle.access_pieces.proofs.Sections.{AreApart, first_apart, second_apart, some_crosses}
 use Rattle.access_pieces.proofs.Led.{led}
 use Rattle.access_pieces.specs.Translating.{IsLed, LeadsTo, spot}
 
@@ -117,16 +117,6 @@ module _ (others : ℕ → Bool) where
   two_led kind next first section (gives.Device pa) k = tt
   two_led kind next first section (gives.Fault cause tval) k = tt
   two_led kind next first section (gives.Busy busy) k = absurd k
-
-  some_crosses : (va width first : ℕ) (t : Translated) → over_from va width t ≡ Some first → crosses_page va width ≡ true
-  some_crosses va width first (gives.Ram pa) e = by (crosses_page va width) e
-    where
-      by : (c : Bool) → (if c then Some pa else None) ≡ Some first → c ≡ true
-      by true e = refl
-      by false e = cc
-  some_crosses va width first (gives.Device pa) e = cc
-  some_crosses va width first (gives.Fault cause tval) e = cc
-  some_crosses va width first (gives.Busy busy) e = cc
 
   -- the walks that the log shows, and where they lead
   pub record Shown2 (c : Arch) (kind : Kind) (va width : ℕ) (x : Result Place Got) (pages a : ℕ) (l : Log) : Type 0 where

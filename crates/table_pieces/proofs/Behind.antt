@@ -43,7 +43,7 @@ use Rattle.table_pieces.specs.Laws.{AnswersHit, OthersStay}
 use Rattle.table_pieces.proofs.Kept.{last_hits}
 
 -- a step that is no store in the hart's table
-same_step : (p q : Shown) (w : Word) (op : WordOp) (arg answer : ℕ) → Made p q w op arg answer → ((j : ℕ) (f : TlbField) (n : ℕ) → table_next (Tlb p.own.actor j f) w op arg answer n ≡ n)
+pub same_step : (p q : Shown) (w : Word) (op : WordOp) (arg answer : ℕ) → Made p q w op arg answer → ((j : ℕ) (f : TlbField) (n : ℕ) → table_next (Tlb p.own.actor j f) w op arg answer n ≡ n)
     → ((n : ℕ) → table_next (Size p.own.actor) w op arg answer n ≡ n) → HasSameTable p q
 same_step p q w op arg answer m words size = record {
   machine = ap (λ (x : Shown). x.machine) m.step;
@@ -62,7 +62,7 @@ same_marked_for kinds.Store address p q m = same_marked address p q m
 same_marked_for kinds.Load address p q e = subst (HasSameTable p) (sym e) (same_none p)
 same_marked_for kinds.Fetch address p q e = subst (HasSameTable p) (sym e) (same_none p)
 
-same_served : (p q : Shown) (va : ℕ) (kind : Kind) (found : Hit) (t : Translated) → IsServed p q va kind found t → HasSameTable p q
+pub same_served : (p q : Shown) (va : ℕ) (kind : Kind) (found : Hit) (t : Translated) → IsServed p q va kind found t → HasSameTable p q
 same_served p q va kind found t (at_once w e is) = subst (HasSameTable p) (sym e) (same_none p)
 same_served p q va kind found t (settled w x is) = same_then p x.clear q (same_then p x.marked x.clear (same_then p x.locked x.marked
     (same_step p x.locked (Lock p.own.actor) (Exchange 0) (p.own.actor + 1) 0 x.takes (λ j f n. refl) (λ n. refl)) (same_marked found.page x.locked x.marked x.marks))

@@ -1,5 +1,5 @@
 -- Laws of a hart's own table: what flushes are to its log, and when it hits.
-use Rattle.std.specs.Prelude.{◌≡◌, ◌≢◌, ℕ, ◌<◌, Bool, false}
+use Rattle.std.specs.Prelude.{◌≡◌, ◌≢◌, ℕ, ◌<◌, Bool, true, false, Result}
 use Rattle.rv64_priv.specs.declared.state.Kind.{Kind}
 use Rattle.rv64_priv.specs.declared.state.Regime.{Regime}
 use Rattle.rv64_priv.specs.Flush.{Full}
@@ -17,9 +17,15 @@ use Rattle.tlb_entry.specs.Compare.{field_of, hit}
 use Rattle.tlb_entry.specs.Kept.{kept}
 use Rattle.tlb_table.specs.Lookups.{slot}
 use Rattle.kept_fills.specs.Beside.{IsBeside, OwesNothing}
+use Rattle.kept_fills.specs.Fills.{HasSameTable}
+use Rattle.machine_model.specs.Access.{crosses_page, second_va}
+use Rattle.guest_access.specs.Atomics.{HasPlaced}
+use Rattle.guest_access.specs.Reaching.{HasReached}
+use Rattle.guest_access.specs.declared.outcomes.Got.{Got}
+use Rattle.guest_access.specs.declared.reaching.Place.{Place}
 use Rattle.flush.specs.Flushed.{HasBeenBusy, HasFlushed, HasFlushedAll}
 use Rattle.tlb_fill.specs.Answered.{HitsKept, HitsNow}
-use Rattle.tlb_fill.specs.Stepping.{HasTranslated}
+use Rattle.tlb_fill.specs.Stepping.{HasTranslated, IsOfHit}
 use Rattle.tlb_fill.specs.declared.translation.Translated.{Translated}
 use Rattle.turn_pieces.specs.Grows.{Part}
 use Rattle.turn_pieces.specs.Log.{Log}
@@ -40,6 +46,16 @@ PagesArePlaced = (p q : Shown) (b b' : Book) (r : Regime) (page count most : ℕ
 -- one that found the lock held
 abbrev pub BusyRests : Type 0
 BusyRests = (p q : Shown) (b b' : Book) (r : Regime) (holder : ℕ) → IsBeside b p → HasBeenBusy holder p q b b' → (others : ℕ → Bool) (o : Own) → Part (Rests others o p b r) (Rests others o q b' r)
+
+-- where it hits for each page of an access, no step on RAM is made before the access's own, and the table is as it was
+abbrev pub AccessesHit : Type 0
+AccessesHit = (p q : Shown) (b b' : Book) (r : Regime) (kind : Kind) (va width : ℕ) (section : Bool) (x : Result Place Got) → HasReached p q b b' r kind va width section x → HitsKept p b.size r va kind
+    → (crosses_page va width ≡ true → HitsKept p b.size r (second_va va) kind) → GoesBy 12 IsOfHit p q × HasSameTable p q × (b' ≡ b)
+
+-- so of atomic accesses, which lie within a page
+abbrev pub AtomicsHit : Type 0
+AtomicsHit = (p q : Shown) (b b' : Book) (r : Regime) (kind : Kind) (va : ℕ) (wide : Bool) (x : Result ℕ Got) → HasPlaced p q b b' r kind va wide x → HitsKept p b.size r va kind
+    → GoesBy 6 IsOfHit p q × HasSameTable p q × (b' ≡ b)
 
 -- a hart whose whole record keeps to the discipline owes no words to clear while it holds no lock
 abbrev pub DisciplineClears : Type 0

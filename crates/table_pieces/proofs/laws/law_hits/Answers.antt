@@ -1,4 +1,5 @@
 use Rattle.table_pieces.proofs.Behind.{answers_hit, others_stay}
+use Rattle.table_pieces.proofs.Hits.{accesses_hit, atomics_hit}
 use Rattle.table_pieces.proofs.Kept.{hits_are_loads, misses_walk}
 use Rattle.table_pieces.proofs.laws.law_hits.Goals as goal
 
@@ -13,3 +14,9 @@ returns-clause-answers c = answers_hit
 
 pub returns-clause-others : goal.returns-clause-others
 returns-clause-others c = others_stay
+
+pub returns-clause-accesses : goal.returns-clause-accesses
+returns-clause-accesses c = accesses_hit
+
+pub returns-clause-atomics : goal.returns-clause-atomics
+returns-clause-atomics c = atomics_hit
