@@ -3,13 +3,8 @@
 use Rattle.std.specs.Prelude.{ℕ, ◌+◌, ◌-◌, ◌*◌, ◌/◌, ◌%◌, ◌^◌, ◌≤◌, ◌==◌, Bool, min}
 use Rattle.step_laws.specs.declared.request.Request.{Request}
 use Rattle.step_laws.specs.declared.request.Request.TheVariants.{FlushAll, FlushPages}
-use Rattle.sbi_calls.specs.declared.spans.Span.{Span}
-use Rattle.sbi_calls.specs.declared.spans.Span.TheVariants.{All, Pages}
-
--- 1 to 512 pages, by numbers of 52 bits
-abbrev pub IsSpan : Span → Type 0
-IsSpan All = Unit {0}
-IsSpan (Pages page count) = (1 ≤ count) × (count ≤ 512) × (page + count ≤ 2 ^ 52)
+use Rattle.hart_calls.specs.declared.spans.Span.{Span}
+use Rattle.hart_calls.specs.declared.spans.Span.TheVariants.{All, Pages}
 
 -- in how many pieces it is sent
 abbrev pub pieces_of : Span → ℕ
