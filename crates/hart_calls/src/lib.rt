@@ -12,6 +12,7 @@ mod reset;
 mod spans;
 mod states;
 
+pub use asking::Asked;
 pub use calling::sbi;
 pub use machine_model::Reason;
 pub use outcomes::SbiEnd;

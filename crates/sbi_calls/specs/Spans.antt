@@ -1,6 +1,6 @@
 -- What a remote fence names, and the pieces in which it is sent (SBI specification, "RFENCE Extension"; that it is sent in pieces of 64 pages
 -- is this project's own).
-use Rattle.std.specs.Prelude.{ℕ, ◌+◌, ◌-◌, ◌*◌, ◌/◌, ◌%◌, ◌^◌, ◌≤◌, ◌==◌, Bool, min}
+use Rattle.std.specs.Prelude.{ℕ, ◌+◌, ◌-◌, ◌*◌, ◌/◌, ◌%◌, ◌^◌, ◌==◌, Bool, min}
 use Rattle.step_laws.specs.declared.request.Request.{Request}
 use Rattle.step_laws.specs.declared.request.Request.TheVariants.{FlushAll, FlushPages}
 use Rattle.hart_calls.specs.declared.spans.Span.{Span}
