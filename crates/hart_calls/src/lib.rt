@@ -1,5 +1,5 @@
-//! The calls that a hart makes of its execution environment (RISC-V Supervisor Binary Interface Specification): the base, timer-less
-//! interrupts, remote fences as far as they are asked for, hart states, reset and the console.
+//! The calls that a hart makes of its execution environment (RISC-V Supervisor Binary Interface Specification): the base, interrupts between
+//! harts, remote fences as far as they are asked for, hart states, reset and the console.
 #![tactic(auto)]
 
 mod asking;
