@@ -14,7 +14,7 @@ use Rattle.step_laws.specs.declared.steps.WordOp.TheVariants.{Or}
 use Rattle.step_laws.specs.Map.{Word, Dirty, name_of}
 use Rattle.step_laws.specs.Marks.{is_mark, is_page}
 use Rattle.machine_model.specs.Access.{Spot, AtRam}
-use Rattle.machine_model.specs.Event.{Event, Exec, GiveUp, Outcome}
+use Rattle.machine_model.specs.Event.{Event, Exec, Outcome}
 use Rattle.machine_model.specs.Own.{Own}
 use Rattle.machine_model.specs.State.{Setup}
 use Rattle.machine_model.specs.Stores.{is_store, of_store, page_at, pages_reached, pages_walked, ram_page}
@@ -31,15 +31,15 @@ use Rattle.turn_pieces.specs.Marks.{awaited_next, is_awaited, own_pages}
 use Rattle.turn_pieces.specs.Writers.{quietly}
 use Rattle.turn_pieces.proofs.Bits.{one_page}
 use Rattle.turn_pieces.proofs.Unmarked.{is_other, mark_paid, unmarked_did, unmarked_step}
-use Rattle.access_pieces.specs.Serving.{AwaitsNone, Wants}
+use Rattle.access_pieces.specs.Serving.{AwaitsAtMost, Wants}
 use Rattle.access_pieces.specs.Translating.{spot}
 
 abbrev pub is_given : (page : ℕ) → List ℕ → Bool
 is_given page pages = list_any (λ given. given == page) pages
 
--- a store is to come for these pages at most
-abbrev pub AwaitsBut : List ℕ → Setup → ℕ → Log → Type 0
-AwaitsBut pages u a l = (page : ℕ) → is_given page pages ≡ false → is_awaited u a page l ≡ false
+-- besides those a store is to come for these pages at most
+abbrev pub AwaitsBut : (others : ℕ → Bool) → List ℕ → Setup → ℕ → Log → Type 0
+AwaitsBut others pages u a l = (page : ℕ) → others page ≡ false → is_given page pages ≡ false → is_awaited u a page l ≡ false
 
 -- a step marks these pages at most
 abbrev pub IsMarkOf : List ℕ → Word → WordOp → (arg : ℕ) → Type 0
@@ -128,16 +128,16 @@ pub awaited_quietly : (u : Setup) (a page : ℕ) (pages : List ℕ) (r : List St
 awaited_quietly u a page pages [] l k out = refl
 awaited_quietly u a page pages (s ∷ r) l k out = k.0 page (is_awaited u a page (quietly r l)) out ∙ awaited_quietly u a page pages r l k.1 out
 
-pub awaits_step : (pages : List ℕ) (u : Setup) (a : ℕ) (l : Log) (s : Step) → is_other (name_of s.word) ≡ true → AwaitsBut pages u a l → AwaitsBut pages u a (made s ∷ l)
-awaits_step pages u a l s e k = λ page out. unmarked_step u a page l s e ∙ k page out
+pub awaits_step : (others : ℕ → Bool) (pages : List ℕ) (u : Setup) (a : ℕ) (l : Log) (s : Step) → is_other (name_of s.word) ≡ true → AwaitsBut others pages u a l → AwaitsBut others pages u a (made s ∷ l)
+awaits_step others pages u a l s e k = λ page free out. unmarked_step u a page l s e ∙ k page free out
 
 -- an event that has these pages ends the wait for them
-pub paid : (u : Setup) (a : ℕ) (l : Log) (e : Event) (o : Own) (pages : List ℕ) → own_part u a l ≡ o → own_pages o e ≡ pages → AwaitsBut pages u a l → AwaitsNone u a (did e ∷ l)
-paid u a l e o pages part is k page = by (is_given page (own_pages (own_part u a l) e)) refl
+pub paid : (others : ℕ → Bool) (u : Setup) (a : ℕ) (l : Log) (e : Event) (o : Own) (pages : List ℕ) → own_part u a l ≡ o → own_pages o e ≡ pages → AwaitsBut others pages u a l → AwaitsAtMost others u a (did e ∷ l)
+paid others u a l e o pages part is k page free = by (is_given page (own_pages (own_part u a l) e)) refl
   where
     by : (b : Bool) → is_given page (own_pages (own_part u a l) e) ≡ b → is_awaited u a page (did e ∷ l) ≡ false
     by true x = mark_paid u a page l e x
-    by false x = unmarked_did u a page l e (k page (ap (is_given page) (sym is ∙ ap (λ y. own_pages y e) (sym part)) ∙ x))
+    by false x = unmarked_did u a page l e (k page free (ap (is_given page) (sym is ∙ ap (λ y. own_pages y e) (sym part)) ∙ x))
 
 abbrev pub exec_pages : Need → (walk second : Walked) → List ℕ
 exec_pages need walk second = of_store (access_of need) (λ w. pages_reached w walk second)
@@ -145,11 +145,8 @@ exec_pages need walk second = of_store (access_of need) (λ w. pages_reached w w
 abbrev pub given_up_pages : Need → List Walked → List ℕ
 given_up_pages need walks = of_store (access_of need) (λ w. pages_walked w walks)
 
-pub exec_paid : (o : Own) (c : Arch) (need : Need) (walk second : Walked) (out : Outcome) (u : Setup) (a : ℕ) (l : Log) → Wants o c need → own_part u a l ≡ o → AwaitsBut (exec_pages need walk second) u a l → AwaitsNone u a (did (Exec a walk second out) ∷ l)
-exec_paid o c need walk second out u a l wants part k = paid u a l (Exec a walk second out) o (exec_pages need walk second) part (ap (λ n. exec_pages n walk second) wants.need_is) k
-
-pub give_up_paid : (o : Own) (c : Arch) (need : Need) (walks : List Walked) (u : Setup) (a : ℕ) (l : Log) → Wants o c need → own_part u a l ≡ o → AwaitsBut (given_up_pages need walks) u a l → AwaitsNone u a (did (GiveUp a walks) ∷ l)
-give_up_paid o c need walks u a l wants part k = paid u a l (GiveUp a walks) o (given_up_pages need walks) part (ap (λ n. given_up_pages n walks) wants.need_is) k
+pub exec_paid : (others : ℕ → Bool) (o : Own) (c : Arch) (need : Need) (walk second : Walked) (out : Outcome) (u : Setup) (a : ℕ) (l : Log) → Wants o c need → own_part u a l ≡ o → AwaitsBut others (exec_pages need walk second) u a l → AwaitsAtMost others u a (did (Exec a walk second out) ∷ l)
+exec_paid others o c need walk second out u a l wants part k = paid others u a l (Exec a walk second out) o (exec_pages need walk second) part (ap (λ n. exec_pages n walk second) wants.need_is) k
 
 -- pages given by either of two lists
 pub given_left : (page : ℕ) (xs ys : List ℕ) → is_given page (xs ++ ys) ≡ false → is_given page xs ≡ false

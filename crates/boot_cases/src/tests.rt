@@ -21,6 +21,9 @@ const LAYOUT: Layout = Layout {
     pages: 1024,
 };
 
+/// How many words its RAM has.
+const WORDS: u32 = 512 * 1024;
+
 /// The words of a machine that has loaded a file, before its harts begin.
 fn loaded(alloc: Global, layout: Layout, file: &[u8]) -> Result<Words, Fail>
     requires limits { IsInLimits layout }
@@ -65,26 +68,27 @@ fn ram_has_the_image(rt: HostRuntime) -> Result<(), Fail> {
     let alloc = rt.alloc();
     let file = with_map(alloc, &HELLO, &[])?;
     let words = loaded(alloc, LAYOUT, &file)?;
-    for (address, value) in [
-        (0x8000_0000u64, 0x04f0_0313_1000_02b7),
-        (0x8000_0008, 0x04b0_0313_0062_8023),
+    // by the distance from RAM's begin
+    for (distance, value) in [
+        (0, 0x04f0_0313_1000_02b7),
+        (0x8, 0x04b0_0313_0062_8023),
         // the last of eleven words of code
-        (0x8000_0028, 0x0062_a023),
-        (0x8000_0030, 0),
-        (0x8000_3000, 0x44),
-        (0x8001_0000, 0x2000_4401),
-        (0x8001_0010, 0x2000_00cf),
-        (0x8001_2008, 0x2000_80c7),
-        (0x8002_0ff8, 0x5566_7788_99aa_bbcc),
-        (0x8002_1000, 0x22),
-        (0x8020_3000, 0x33),
-        (0x803f_fff8, 0),
+        (0x28, 0x0062_a023),
+        (0x30, 0),
+        (0x3000, 0x44),
+        (0x1_0000, 0x2000_4401),
+        (0x1_0010, 0x2000_00cf),
+        (0x1_2008, 0x2000_80c7),
+        (0x2_0ff8, 0x5566_7788_99aa_bbcc),
+        (0x2_1000, 0x22),
+        (0x20_3000, 0x33),
+        (0x3f_fff8, 0),
     ] {
-        let index = (address - 0x8000_0000) / 8;
+        let index = distance / 8 % WORDS;
         assert_eq!(rt;
-            words.get(ram_word_at(index as u32)),
+            words.get(ram_word_at(index)),
             value,
-            "at {address:x}"
+            "{distance:x} behind RAM's begin"
         );
     }
     Ok(())

@@ -53,7 +53,7 @@ const MOST_PRINTED: u64 = 256;
 
 /// What a call asks for. Whether a hart can be started, what its state is, and which bytes lie in RAM are still to be looked up.
 #[derive(Clone, Copy)]
-pub(crate) enum Asked {
+pub enum Asked {
     /// a0 gets the error and a1 the value.
     Gives { error: i64, value: u64 },
     /// a0 gets the error, and a1 is kept.

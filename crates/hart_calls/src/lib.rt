@@ -1,5 +1,5 @@
-//! The calls that a hart makes of its execution environment (RISC-V Supervisor Binary Interface Specification): the base, timer-less
-//! interrupts, remote fences as far as they are asked for, hart states, reset and the console.
+//! The calls that a hart makes of its execution environment (RISC-V Supervisor Binary Interface Specification): the base, interrupts between
+//! harts, remote fences as far as they are asked for, hart states, reset and the console.
 #![tactic(auto)]
 
 mod asking;
@@ -12,6 +12,7 @@ mod reset;
 mod spans;
 mod states;
 
+pub use asking::Asked;
 pub use calling::sbi;
 pub use machine_model::Reason;
 pub use outcomes::SbiEnd;

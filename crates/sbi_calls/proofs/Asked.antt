@@ -15,7 +15,7 @@ use Rattle.work_queue.specs.declared.rings.Sent.{Sent}
 use Rattle.work_queue.specs.Posts.{HasPosted}
 use Rattle.work_queue.specs.Rings.{IsSentBy, next_post, sent_on}
 use Rattle.work_queue.proofs.Ringed.{posted_more}
-use Rattle.sbi_calls.specs.declared.spans.Span.{Span}
+use Rattle.hart_calls.specs.declared.spans.Span.{Span}
 use Rattle.sbi_calls.specs.Fences.{HasAnswered, HasAsked, IsFenceAt, place_of}
 use Rattle.sbi_calls.specs.Spans.{piece_of, pieces_of}
 

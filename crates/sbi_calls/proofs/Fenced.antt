@@ -9,7 +9,7 @@ use Rattle.guest_ram.specs.Ports.{Shown, GoesBy}
 use Rattle.work_queue.specs.declared.rings.Sent.{Sent}
 use Rattle.work_queue.specs.Rings.{next_post}
 use Rattle.sbi_calls.specs.declared.spans.Fence.{Fence}
-use Rattle.sbi_calls.specs.declared.spans.Span.{Span}
+use Rattle.hart_calls.specs.declared.spans.Span.{Span}
 use Rattle.sbi_calls.specs.Fences.{GoesWithFence, IsFenceAt, IsTarget}
 use Rattle.sbi_calls.specs.Spans.{pieces_of}
 use Rattle.sbi_calls.proofs.Asked.{at_goes}

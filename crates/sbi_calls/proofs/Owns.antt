@@ -9,8 +9,8 @@ use Rattle.guest_ram.specs.Ports.{Shown, GoesBy}
 use Rattle.guest_ram.proofs.Moves.{goes_then, goes_at_most}
 use Rattle.tlb_entry.specs.declared.books.Book.{Book}
 use Rattle.flush.specs.Flushed.{HasFlushed, HasFlushedAll, full_steps, page_steps}
-use Rattle.sbi_calls.specs.declared.spans.Span.{Span}
-use Rattle.sbi_calls.specs.declared.spans.Span.TheVariants.{All, Pages}
+use Rattle.hart_calls.specs.declared.spans.Span.{Span}
+use Rattle.hart_calls.specs.declared.spans.Span.TheVariants.{All, Pages}
 use Rattle.sbi_calls.specs.Fences.{HasFlushedPiece, piece_steps}
 use Rattle.sbi_calls.specs.Spans.{piece_of, pieces_of}
 

@@ -19,7 +19,7 @@ use Rattle.work_queue.specs.Rings.{next_post}
 use Rattle.work_queue.proofs.Posted.{places_posts}
 use Rattle.work_queue.proofs.Ringed.{IsNoPlace}
 use Rattle.sbi_calls.specs.declared.spans.Fence.{Fence}
-use Rattle.sbi_calls.specs.declared.spans.Span.{Span}
+use Rattle.hart_calls.specs.declared.spans.Span.{Span}
 use Rattle.sbi_calls.specs.Fences.{GoesWithFence, HasBeenBusyAt, HaveFlushed, IsAnsweredAt, IsOfFence, IsTarget, place_of}
 use Rattle.sbi_calls.specs.Spans.{pieces_of}
 

@@ -16,8 +16,9 @@ use Rattle.work_queue.specs.declared.rings.Sent.{Sent}
 use Rattle.work_queue.specs.Posts.{IsOfPosts}
 use Rattle.work_queue.specs.Rings.{next_post}
 use Rattle.sbi_calls.specs.declared.spans.Fence.{Fence}
-use Rattle.sbi_calls.specs.declared.spans.Span.{Span}
-use Rattle.sbi_calls.specs.Spans.{IsSpan, is_named, piece_of, pieces_of}
+use Rattle.hart_calls.specs.declared.spans.Span.{Span}
+use Rattle.hart_calls.specs.Spans.{IsSpan}
+use Rattle.sbi_calls.specs.Spans.{is_named, piece_of, pieces_of}
 
 -- the request was posted in a place of the actor's at the target
 abbrev pub IsPost : (actor target place : ℕ) → Request → Step → Type 0

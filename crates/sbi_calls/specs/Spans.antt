@@ -1,15 +1,10 @@
 -- What a remote fence names, and the pieces in which it is sent (SBI specification, "RFENCE Extension"; that it is sent in pieces of 64 pages
 -- is this project's own).
-use Rattle.std.specs.Prelude.{ℕ, ◌+◌, ◌-◌, ◌*◌, ◌/◌, ◌%◌, ◌^◌, ◌≤◌, ◌==◌, Bool, min}
+use Rattle.std.specs.Prelude.{ℕ, ◌+◌, ◌-◌, ◌*◌, ◌/◌, ◌%◌, ◌^◌, ◌==◌, Bool, min}
 use Rattle.step_laws.specs.declared.request.Request.{Request}
 use Rattle.step_laws.specs.declared.request.Request.TheVariants.{FlushAll, FlushPages}
-use Rattle.sbi_calls.specs.declared.spans.Span.{Span}
-use Rattle.sbi_calls.specs.declared.spans.Span.TheVariants.{All, Pages}
-
--- 1 to 512 pages, by numbers of 52 bits
-abbrev pub IsSpan : Span → Type 0
-IsSpan All = Unit {0}
-IsSpan (Pages page count) = (1 ≤ count) × (count ≤ 512) × (page + count ≤ 2 ^ 52)
+use Rattle.hart_calls.specs.declared.spans.Span.{Span}
+use Rattle.hart_calls.specs.declared.spans.Span.TheVariants.{All, Pages}
 
 -- in how many pieces it is sent
 abbrev pub pieces_of : Span → ℕ

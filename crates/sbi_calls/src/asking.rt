@@ -3,13 +3,15 @@ ghost use Rattle.std.specs.Prelude.{◌≡◌, ◌≢◌, ◌<◌, ◌≤◌, �
 ghost use Rattle.step_laws.specs.declared.steps.Step.{Step};
 ghost use Rattle.guest_ram.specs.Ports.{layout_of, GoesBy, IsActing};
 ghost use Rattle.sbi_calls.specs.Fences.{GoesWithFence, HasFoundFull, HasFoundOpen, IsFenceAt, IsFencing, IsTarget};
-ghost use Rattle.sbi_calls.specs.Spans.{IsSpan, pieces_of};
+ghost use Rattle.hart_calls.specs.Spans.{IsSpan};
+ghost use Rattle.sbi_calls.specs.Spans.{pieces_of};
 ghost use Rattle.work_queue.specs.Posts.{IsOfPosts};
 ghost use Rattle.work_queue.specs.Rings.{IsSentBy, IsServedBy, next_post};
 ghost use Rattle.work_queue.specs.declared.rings.Served.{Served as TheServed};
 
-use crate::spans::{Fence, Span, names, piece, pieces};
+use crate::spans::{Fence, names, piece, pieces};
 use guest_ram::{Port, Seen};
+use hart_calls::Span;
 use work_queue::{Sent, post};
 
 /// Posts the pieces of a span from one number on at another hart, until one is refused. Answers how many are posted, and what the refused

@@ -7,11 +7,13 @@ ghost use Rattle.guest_ram.specs.Ports.{GoesBy};
 ghost use Rattle.kept_fills.specs.Beside.{IsBeside};
 ghost use Rattle.flush.specs.Flushed.{HasBeenBusy, full_steps};
 ghost use Rattle.sbi_calls.specs.Fences.{HasBeenBusyAt, HasFlushedPiece, HaveFlushed, piece_steps};
-ghost use Rattle.sbi_calls.specs.Spans.{IsSpan, pieces_of};
+ghost use Rattle.hart_calls.specs.Spans.{IsSpan};
+ghost use Rattle.sbi_calls.specs.Spans.{pieces_of};
 
-use crate::spans::{Span, piece, pieces};
+use crate::spans::{piece, pieces};
 use flush::{flush_all, flush_pages};
 use guest_ram::Port;
+use hart_calls::Span;
 use step_laws::Request;
 use tlb_entry::Book;
 use tlb_lock::Busy;

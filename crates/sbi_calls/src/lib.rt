@@ -1,4 +1,4 @@
-//! Calls of the SBI that harts make: remote fences.
+//! Calls of the SBI that harts make: the calls themselves, and the turns of the remote fences that they ask for.
 #![tactic(auto)]
 
 mod asking;
@@ -9,5 +9,6 @@ mod spans;
 
 pub use fencing::{Fencing, fence_turn};
 pub use guest_ram::Seen;
-pub use spans::{Fence, Span};
+pub use hart_calls::{SbiEnd, Span, sbi};
+pub use spans::Fence;
 pub use tlb_lock::Busy;

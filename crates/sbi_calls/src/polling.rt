@@ -4,7 +4,7 @@ ghost use Rattle.step_laws.specs.declared.steps.Step.{Step};
 ghost use Rattle.guest_ram.specs.Areas.{IsOfPlaces};
 ghost use Rattle.guest_ram.specs.Ports.{layout_of, GoesBy, IsActing};
 ghost use Rattle.sbi_calls.specs.Fences.{GoesWithFence, HasFoundFull, HasFoundOpen, IsFenceAt, IsPolling, IsTarget};
-ghost use Rattle.sbi_calls.specs.declared.spans.Span.{Span as TheSpan};
+ghost use Rattle.hart_calls.specs.declared.spans.Span.{Span as TheSpan};
 ghost use Rattle.work_queue.specs.Rings.{IsSentBy, IsServedBy, next_post};
 ghost use Rattle.work_queue.specs.declared.rings.Served.{Served as TheServed};
 

@@ -1,16 +1,11 @@
 // What a remote fence names, and the pieces in which it is sent.
 ghost use Rattle.std.specs.Prelude.{◌≡◌, ◌<◌, ◌≤◌};
 ghost use Rattle.step_laws.specs.Fields.{IsRequest};
-ghost use Rattle.sbi_calls.specs.Spans.{IsSpan, is_named, piece_of, pieces_of};
+ghost use Rattle.hart_calls.specs.Spans.{IsSpan};
+ghost use Rattle.sbi_calls.specs.Spans.{is_named, piece_of, pieces_of};
 
+use hart_calls::Span;
 use step_laws::Request;
-
-/// What a fence flushes: everything, or 1 to 512 virtual pages by the number of the first one.
-#[derive(Clone, Copy, Debug, PartialEq, Eq)]
-pub enum Span {
-    All,
-    Pages { page: u64, count: u16 },
-}
 
 /// How far a fence has come: of each hart, how many of its pieces were posted there, and how many are acked; of the own hart, how many are
 /// flushed, among the acked ones.

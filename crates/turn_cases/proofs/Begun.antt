@@ -7,7 +7,7 @@ use Rattle.step_laws.proofs.Named.{by_lt}
 use Rattle.std.proofs.lemmas.List.{get_or-replicate}
 use Rattle.guest_ram.specs.Ports.{Shown}
 use Rattle.work_queue.specs.declared.rings.Sent.{Sent}
-use Rattle.sbi_calls.specs.declared.spans.Span.{Span}
+use Rattle.hart_calls.specs.declared.spans.Span.{Span}
 use Rattle.sbi_calls.specs.Fences.{GoesWithFence}
 use Rattle.sbi_calls.specs.Spans.{is_named}
 

@@ -5,7 +5,8 @@ ghost use Rattle.step_laws.specs.Steps.{words_of};
 ghost use Rattle.guest_ram.specs.Ports.{layout_of};
 ghost use Rattle.guest_ram.specs.Shown.{all_words};
 ghost use Rattle.guest_ram_cases.specs.Tours.{IsFresh, IsSameSeat};
-ghost use Rattle.sbi_calls.specs.Spans.{IsSpan, is_named};
+ghost use Rattle.hart_calls.specs.Spans.{IsSpan};
+ghost use Rattle.sbi_calls.specs.Spans.{is_named};
 
 use guest_ram::{Port, Words};
 use guest_ram_cases::{Seats, close_seats, open_seats};

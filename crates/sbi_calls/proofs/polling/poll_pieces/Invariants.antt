@@ -4,7 +4,7 @@ use Rattle.guest_ram.specs.Areas.{IsOfPlaces}
 use Rattle.guest_ram.specs.Ports.{GoesBy, IsActing}
 use Rattle.work_queue.specs.declared.rings.Served.{Served}
 use Rattle.work_queue.specs.Rings.{IsSentBy, next_post, IsServedBy}
-use Rattle.sbi_calls.specs.declared.spans.Span.{Span}
+use Rattle.hart_calls.specs.declared.spans.Span.{Span}
 use Rattle.sbi_calls.specs.Fences.{IsFenceAt}
 use Rattle.sbi_calls.proofs.polling.poll_pieces.Given as goal
 

@@ -1,0 +1,3 @@
+pub mod Found
+pub mod Did
+pub mod Laws
