@@ -25,15 +25,19 @@ HasFlushedFor FlushAll p q b b' = HasFlushedAll p q b b'
 HasFlushedFor (FlushPages page count) p q b b' = HasFlushed b.large p q b b' page count
 HasFlushedFor Drain p q b b' = (q ≡ p) × (b' ≡ b)
 
--- the source's next request was loaded, what it asks for was flushed, and then it was acked
+-- what a request that was loaded asks for was flushed, and then it was acked
+pub record HasDone (request : Request) (source : ℕ) (served served' : Served) (p q : Shown) (b b' : Book) : Type 0 where
+  pub flushed : Shown
+  pub flushes : HasFlushedFor request p flushed b b'
+  pub acks : HasAcked source (next_ack served source) flushed q
+  pub moved : served' ≡ served_on served source
+
+-- the source's next request was loaded, and that done
 pub record HasServed (source : ℕ) (served served' : Served) (p q : Shown) (b b' : Book) : Type 0 where
   pub request : Request
   pub loaded : Shown
-  pub flushed : Shown
   pub finds : HasFoundRequest request source (next_ack served source) p loaded
-  pub flushes : HasFlushedFor request loaded flushed b b'
-  pub acks : HasAcked source (next_ack served source) flushed q
-  pub moved : served' ≡ served_on served source
+  pub done : HasDone request source served served' loaded q b b'
 
 -- it was loaded and asks for a flush, and the own lock was found held
 pub record HasFoundHeld (source place holder : ℕ) (p q : Shown) (b b' : Book) : Type 0 where

@@ -1,5 +1,6 @@
 // One request of a source.
 ghost use Rattle.std.specs.Prelude.{◌≡◌, ◌≢◌, ◌<◌, ◌+◌, OnOk, IfErr, false};
+ghost use Rattle.step_laws.specs.declared.request.Request.TheVariants.{Drain};
 ghost use Rattle.step_laws.specs.Discipline.{IsActor};
 ghost use Rattle.step_laws.specs.Fields.{IsRequest};
 ghost use Rattle.step_laws.specs.Output.{has_touched};
@@ -10,7 +11,7 @@ ghost use Rattle.flush.specs.Flushed.{HasBeenBusy, full_steps};
 ghost use Rattle.work_queue.specs.declared.rings.Sent.{Sent as TheSent};
 ghost use Rattle.work_queue.specs.Acks.{HasFoundNone, IsLoaded, MayAck};
 ghost use Rattle.work_queue.specs.Rings.{IsSentBy, IsServedBy, next_ack};
-ghost use Rattle.request_serving.specs.Served.{HasFills, HasFlushedFor, HasFoundHeld, HasServed, IfBusy, IfIdle, IfServed, UnlessServed};
+ghost use Rattle.request_serving.specs.Served.{HasDone, HasFills, HasFlushedFor, HasFoundHeld, HasServed, IfBusy, IfIdle, IfServed, UnlessServed};
 
 use flush::{flush_all, flush_pages};
 use guest_ram::Port;
@@ -33,6 +34,7 @@ fn flush_for<P: Port>(book: &mut Book, port: &mut P, request: &Request) -> Resul
     requires request { IsRequest request.now }
     ensures flushed { OnOk result (HasFlushedFor request.now (P.shows port.old) (P.shows port.new) book.old book.new) }
     ensures busy { IfErr result (λ busy. HasBeenBusy busy.holder (P.shows port.old) (P.shows port.new) book.old book.new) }
+    ensures asks { IfErr result (λ busy. request.now ≢ Drain) }
     ensures beside { IsBeside book.new (P.shows port.new) }
     ensures goes { GoesBy (full_steps book.old.size + 386) IsOfTable (P.shows port.old) (P.shows port.new) }
 {
@@ -59,7 +61,16 @@ fn serve<P: Port>(
     requires untouched { has_touched (P.shows port.old).own.steps ≡ false }
     requires request { IsRequest request.now }
     requires loaded { IsLoaded request.now source (next_ack served.old source) (P.shows port.old) }
+    ensures done { OnOk result (HasDone request.now source served.old served.new (P.shows port.old) (P.shows port.new) book.old book.new) }
+    ensures busy { IfErr result (λ busy. HasBeenBusy busy.holder (P.shows port.old) (P.shows port.new) book.old book.new) }
+    ensures asks { IfErr result (λ busy. request.now ≢ Drain) }
+    ensures stays { IfErr result (λ busy. served.new ≡ served.old) }
+    ensures sent { (sent : TheSent) → IsSentBy sent (P.shows port.old) → IsSentBy sent (P.shows port.new) }
+    ensures ring { IsServedBy served.new (P.shows port.new) }
+    ensures fills { HasFills book.new (P.shows port.new) }
     ensures beside { IsBeside book.new (P.shows port.new) }
+    ensures untouched { has_touched (P.shows port.new).own.steps ≡ false }
+    ensures goes { GoesBy (full_steps book.old.size + 387) IsOfService (P.shows port.old) (P.shows port.new) }
 {
     flush_for(book, port, request)?;
     ack(port, served, source);
