@@ -1,15 +1,13 @@
 -- A request that was loaded and flushed for may be acked.
-use Rattle.std.proofs.Common.{◌≡◌, ◌≢◌, ℕ, ◌+◌, ◌<◌, ◌≤◌, ◌⊎◌, inl, inr, ⊎_elim, Bool, true, false, List, [], ◌∷◌, ◌++◌, refl, sym, ap, subst, ◌∙◌, arith}
-use Rattle.rv64_priv.specs.declared.state.Regime.{Regime}
+use Rattle.std.proofs.Common.{◌≡◌, ℕ, ◌+◌, ◌<◌, ◌⊎◌, inl, inr, ⊎_elim, Bool, true, false, List, [], ◌∷◌, ◌++◌, refl, sym, ap, subst, ◌∙◌, arith}
 use Rattle.rv64_priv.specs.Flush.{Full, Pages}
-use Rattle.step_laws.specs.declared.map.TlbField.{TlbField}
 use Rattle.step_laws.specs.declared.request.Request.{Request}
 use Rattle.step_laws.specs.declared.request.Request.TheVariants.{FlushAll, FlushPages, Drain}
 use Rattle.step_laws.specs.declared.steps.Step.{Step}
 use Rattle.step_laws.specs.declared.steps.WordOp.{WordOp}
 use Rattle.step_laws.specs.declared.steps.WordOp.TheVariants.{Store, Exchange}
-use Rattle.step_laws.specs.Discipline.{IsAway, IsFetch, IsServed, IsUnlock}
-use Rattle.step_laws.specs.Fields.{IsRequest, IsWordOf, compare_page, invalid_bit}
+use Rattle.step_laws.specs.Discipline.{IsAway, IsFetch, IsUnlock}
+use Rattle.step_laws.specs.Fields.{IsRequest, compare_page, invalid_bit}
 use Rattle.step_laws.specs.Map.{Word, Lock, Place, Size, Tlb, name_of}
 use Rattle.step_laws.specs.Past.{Anything, Since, here, past}
 use Rattle.step_laws.specs.Tables.{IsClean, IsNamed, is_victim, size_of, table_next, table_word}
@@ -20,7 +18,7 @@ use Rattle.tlb_lock.specs.Locking.{HasFreed}
 use Rattle.kept_fills.specs.Fills.{HasSameTable}
 use Rattle.kept_fills.proofs.Staying.{fills_stay}
 use Rattle.walk_laws.specs.KeptWalks.{made_all}
-use Rattle.flush.specs.Flushed.{HasBeenBusy, HasEnded, HasFlushed, HasFlushedAll, HasFlushedPages, IsForPages, behind_flush}
+use Rattle.flush.specs.Flushed.{HasBeenBusy, HasFlushed, HasFlushedAll, HasFlushedPages, behind_flush}
 use Rattle.work_queue.specs.Acks.{IsLoaded, MayAck}
 use Rattle.work_queue.proofs.Acked.{drain_served}
 use Rattle.request_serving.specs.Served.{HasFills, HasFlushedFor}

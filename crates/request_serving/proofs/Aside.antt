@@ -1,7 +1,6 @@
 -- What steps on places leave of a hart's table, and what steps on the table leave of places.
-use Rattle.std.proofs.Common.{◌≡◌, ◌≢◌, ℕ, ◌+◌, ◌<◌, ◌≤◌, Bool, false, List, [], ◌∷◌, ◌++◌, refl, sym, ap, subst, ◌∙◌, arith}
-use Rattle.std.specs.Prelude.{Option, Some, None}
-use Rattle.rv64_priv.specs.declared.state.Regime.{Regime}
+use Rattle.std.proofs.Common.{◌≡◌, ◌≢◌, ℕ, ◌<◌, ◌≤◌, Bool, false, List, [], ◌∷◌, ◌++◌, refl, sym, ap, subst, ◌∙◌}
+use Rattle.std.specs.Prelude.{Option, None}
 use Rattle.step_laws.specs.declared.map.TlbField.{TlbField}
 use Rattle.step_laws.specs.declared.request.Request.{Request}
 use Rattle.step_laws.specs.declared.steps.Step.{Step}
@@ -18,7 +17,7 @@ use Rattle.guest_ram.proofs.Moves.{fold_goes, goes_at_most, goes_within}
 use Rattle.tlb_entry.specs.declared.books.Book.{Book}
 use Rattle.tlb_table.proofs.Aside.{IsOffTable, book_goes}
 use Rattle.kept_fills.specs.Beside.{IsBeside}
-use Rattle.kept_fills.specs.Fills.{GoesWithFills, HasSameTable}
+use Rattle.kept_fills.specs.Fills.{HasSameTable}
 use Rattle.kept_fills.proofs.Staying.{fills_stay}
 use Rattle.walk_laws.specs.KeptWalks.{made_all}
 use Rattle.work_queue.proofs.Ringed.{IsNoPlace}

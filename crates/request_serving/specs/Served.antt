@@ -1,16 +1,17 @@
 -- What serving a request comes to.
-use Rattle.std.specs.Prelude.{◌≡◌, ◌≢◌, ℕ, List}
+use Rattle.std.specs.Prelude.{◌≡◌, ◌≢◌, ◌≤◌, ◌⊎◌, ℕ, ◌+◌, Bool, true, false, List}
 use Rattle.rv64_priv.specs.declared.state.Regime.{Regime}
 use Rattle.step_laws.specs.declared.request.Request.{Request}
 use Rattle.step_laws.specs.declared.request.Request.TheVariants.{FlushAll, FlushPages, Drain}
-use Rattle.guest_ram.specs.Ports.{Shown}
+use Rattle.step_laws.specs.Words.{monitor}
+use Rattle.guest_ram.specs.Ports.{Shown, layout_of}
 use Rattle.walk_laws.specs.KeptWalks.{Item}
 use Rattle.tlb_entry.specs.declared.books.Book.{Book}
 use Rattle.tlb_lock.specs.declared.lock.Busy.{Busy as TheBusy}
 use Rattle.kept_fills.specs.Fills.{Fill, GoesWithFills}
 use Rattle.flush.specs.Flushed.{HasBeenBusy, HasFlushed, HasFlushedAll}
 use Rattle.work_queue.specs.declared.rings.Served.{Served}
-use Rattle.work_queue.specs.Acks.{HasAcked, HasFoundRequest}
+use Rattle.work_queue.specs.Acks.{HasAcked, HasFoundNone, HasFoundRequest}
 use Rattle.work_queue.specs.Rings.{next_ack, served_on}
 use Rattle.request_serving.specs.declared.serving.Serving.{Serving}
 use Rattle.request_serving.specs.declared.serving.Serving.TheVariants.{Idle, Served as IsServed, Busy}
@@ -62,3 +63,24 @@ IfBusy _ A = Unit {0}
 abbrev pub UnlessServed : Serving → Type 0 → Type 0
 UnlessServed IsServed A = Unit {0}
 UnlessServed _ A = A
+
+-- A source's turn in a round: there is no such source, it had no request, or one was served. Whether one was served so far goes on from turn
+-- to turn
+pub data HasMoved (source : ℕ) (s : Served) (p : Shown) (b : Book) (any : Bool) : Served → Shown → Book → Bool → Type 0 where
+  nobody : (source ≡ p.own.actor) ⊎ (((layout_of p).harts ≤ source) × (source ≢ monitor)) → HasMoved source s p b any s p b any
+  idle : {q : Shown} → HasFoundNone source (next_ack s source) p q → HasMoved source s p b any s q b any
+  one : {s' : Served} {q : Shown} {b' : Book} → HasServed source s s' p q b b' → HasMoved source s p b any s' q b' true
+
+-- the sources below one had their turns, in order
+pub data HasGone (s : Served) (p : Shown) (b : Book) : ℕ → Served → Shown → Book → Bool → Type 0 where
+  none : HasGone s p b 0 s p b false
+  more : {n : ℕ} {t u : Served} {q r : Shown} {c d : Book} {any now : Bool} → HasGone s p b n t q c any → HasMoved n t q c any u r d now → HasGone s p b (n + 1) u r d now
+
+-- so they had, and then the own lock was found held for a request of the next
+pub record HasStopped (s s' : Served) (holder : ℕ) (p q : Shown) (b b' : Book) : Type 0 where
+  pub source : ℕ
+  pub before : Shown
+  pub book : Book
+  pub any : Bool
+  pub gone : HasGone s p b source s' before book any
+  pub held : HasFoundHeld source (next_ack s' source) holder before q book b'

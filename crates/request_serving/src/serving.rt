@@ -1,5 +1,5 @@
 // One request of a source.
-ghost use Rattle.std.specs.Prelude.{◌≡◌, ◌≢◌, ◌<◌, ◌+◌, OnOk, IfErr, false};
+ghost use Rattle.std.specs.Prelude.{◌≡◌, ◌≢◌, ◌≤◌, ◌+◌, OnOk, IfErr, false};
 ghost use Rattle.step_laws.specs.declared.request.Request.TheVariants.{Drain};
 ghost use Rattle.step_laws.specs.Discipline.{IsActor};
 ghost use Rattle.step_laws.specs.Fields.{IsRequest};
@@ -35,6 +35,7 @@ fn flush_for<P: Port>(book: &mut Book, port: &mut P, request: &Request) -> Resul
     ensures flushed { OnOk result (HasFlushedFor request.now (P.shows port.old) (P.shows port.new) book.old book.new) }
     ensures busy { IfErr result (λ busy. HasBeenBusy busy.holder (P.shows port.old) (P.shows port.new) book.old book.new) }
     ensures asks { IfErr result (λ busy. request.now ≢ Drain) }
+    ensures size { book.new.size ≤ book.old.size }
     ensures beside { IsBeside book.new (P.shows port.new) }
     ensures goes { GoesBy (full_steps book.old.size + 386) IsOfTable (P.shows port.old) (P.shows port.new) }
 {
@@ -70,6 +71,7 @@ fn serve<P: Port>(
     ensures fills { HasFills book.new (P.shows port.new) }
     ensures beside { IsBeside book.new (P.shows port.new) }
     ensures untouched { has_touched (P.shows port.new).own.steps ≡ false }
+    ensures size { book.new.size ≤ book.old.size }
     ensures goes { GoesBy (full_steps book.old.size + 387) IsOfService (P.shows port.old) (P.shows port.new) }
 {
     flush_for(book, port, request)?;
@@ -100,6 +102,7 @@ pub fn serve_source<P: Port>(
     ensures fills { HasFills book.new (P.shows port.new) }
     ensures beside { IsBeside book.new (P.shows port.new) }
     ensures untouched { has_touched (P.shows port.new).own.steps ≡ false }
+    ensures size { book.new.size ≤ book.old.size }
     ensures goes { GoesBy (full_steps book.old.size + 388) IsOfService (P.shows port.old) (P.shows port.new) }
 {
     match next_request(port, served, source) {

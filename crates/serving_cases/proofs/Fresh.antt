@@ -1,5 +1,5 @@
 -- What holds of a hart that has made no step.
-use Rattle.std.proofs.Common.{◌≡◌, ℕ, ◌+◌, ◌<◌, ◌≤◌, false, true, List, [], refl, sym, ap, subst, ◌∙◌, arith}
+use Rattle.std.proofs.Common.{◌≡◌, ◌<◌, ◌≤◌, false, List, [], sym, ap, subst, ◌∙◌, arith}
 use Rattle.std.specs.Prelude.{replicate}
 use Rattle.std.proofs.lemmas.List.{get_or-replicate}
 use Rattle.rv64_priv.specs.declared.state.Regime.{Regime}
@@ -14,9 +14,6 @@ use Rattle.tlb_entry.specs.Books.{GoesWith}
 use Rattle.kept_fills.specs.Beside.{IsBeside}
 use Rattle.kept_fills.proofs.Staying.{new_book_goes}
 use Rattle.hart_calls.specs.declared.spans.Span.{Span}
-use Rattle.sbi_calls.specs.declared.spans.Fence.{Fence}
-use Rattle.work_queue.specs.declared.rings.Sent.{Sent}
-use Rattle.work_queue.specs.declared.rings.Served.{Served}
 use Rattle.turn_cases.proofs.Begun.{fence_begins, named_few}
 use Rattle.serving_cases.specs.Sides.{IsFencer, IsServer}
 

@@ -5,7 +5,6 @@ use Rattle.guest_ram.specs.Ports.{Shown, layout_of}
 use Rattle.tlb_entry.specs.declared.books.Book.{Book}
 use Rattle.kept_fills.specs.Beside.{IsBeside}
 use Rattle.hart_calls.specs.declared.spans.Span.{Span}
-use Rattle.hart_calls.specs.Spans.{IsSpan}
 use Rattle.sbi_calls.specs.declared.spans.Fence.{Fence}
 use Rattle.sbi_calls.specs.Fences.{IsFencing}
 use Rattle.sbi_calls.specs.Spans.{is_named}

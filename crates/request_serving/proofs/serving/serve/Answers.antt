@@ -1,5 +1,5 @@
 -- The flush, and then the ack.
-use Rattle.std.proofs.Common.{◌≡◌, ◌+◌, arith, sym, ap, ◌∙◌}
+use Rattle.std.proofs.Common.{◌+◌, arith}
 use Rattle.guest_ram.specs.Areas.{IsOfTable}
 use Rattle.guest_ram.proofs.Moves.{goes_then, goes_at_most}
 use Rattle.guest_ram.specs.Areas.{IsOfService}
@@ -7,7 +7,7 @@ use Rattle.flush.specs.Flushed.{full_steps}
 use Rattle.work_queue.proofs.Ringed.{sent_goes, served_goes}
 use Rattle.work_queue.specs.Rings.{next_ack}
 use Rattle.request_serving.proofs.Acking.{filled, held_filled, served}
-use Rattle.request_serving.proofs.Aside.{beside_places, fills_places, places_serve, table_no_place, table_serves, untouched_goes}
+use Rattle.request_serving.proofs.Aside.{fills_places, places_serve, table_no_place, table_serves, untouched_goes}
 use Rattle.request_serving.proofs.serving.serve.Goals as goal
 
 pub returns-in_err-flush_for-clause-fills : goal.returns-in_err-flush_for-clause-fills

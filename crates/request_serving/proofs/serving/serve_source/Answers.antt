@@ -1,9 +1,9 @@
 -- The load, and what follows it.
-use Rattle.std.proofs.Common.{◌≡◌, ◌+◌, arith}
+use Rattle.std.proofs.Common.{◌+◌, arith}
 use Rattle.guest_ram.specs.Areas.{IsOfService}
 use Rattle.guest_ram.proofs.Moves.{goes_then, goes_at_most}
 use Rattle.flush.specs.Flushed.{full_steps}
-use Rattle.request_serving.proofs.Aside.{beside_places, fills_places, places_serve}
+use Rattle.request_serving.proofs.Aside.{fills_places, places_serve}
 use Rattle.request_serving.proofs.serving.serve_source.Goals as goal
 
 pub serve-requires-clause-fills : goal.serve-requires-clause-fills
