@@ -1,6 +1,7 @@
 //! Accesses of two harts, over passes of a table.
 #![tactic(auto)]
 
+mod fetches;
 mod opening;
 mod playing;
 mod racing;
@@ -8,6 +9,7 @@ mod rivals;
 mod rows;
 mod sides;
 
+pub use fetches::{FetchRow, fetch_scene};
 pub use opening::Loaded;
 pub use playing::{Played, Scene, first_stored, play_scene};
 pub use racing::play_race;

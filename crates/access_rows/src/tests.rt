@@ -1,5 +1,8 @@
 // Accesses of harts beside each other: atomic ones, crossing ones, and such as are lost.
-use crate::{Loaded, Outcome, Played, Row, Scene, first_stored, play_race, play_scene};
+use crate::{
+    FetchRow, Loaded, Outcome, Played, Row, Scene, fetch_scene, first_stored, play_race, play_scene,
+};
+use code_fetch::Fetched;
 use rv64_exec::{AmoOp, Need};
 use std::test::Fail;
 use step_laws::{Layout, ram_word};
@@ -231,5 +234,30 @@ fn a_store_between_loses_the_exchange(rt: HostRuntime) -> Result<(), Fail> {
     let (right, words) = play_race(rt.alloc(), LAYOUT, &conditional, rival)?;
     assert_eq!(rt; right, 2);
     assert_eq!(rt; words.get(word), 0x5_0000_0000);
+    Ok(())
+}
+
+// Two instructions in a word of RAM; RAM's first and last bytes; no device has code.
+#[test]
+fn words_of_code_are_fetched(rt: HostRuntime) -> Result<(), Fail> {
+    let words = [Loaded {
+        index: 0,
+        value: 0x04f0_0313_1000_02b7,
+    }];
+    let fault = |tval| Fetched::Fault { cause: 1, tval };
+    let bare: [FetchRow; 7] = [
+        (0x8000_0000, Fetched::Word(0x1000_02b7)),
+        (0x8000_0004, Fetched::Word(0x04f0_0313)),
+        (0x8000_0000, Fetched::Word(0x1000_02b7)),
+        (0x800f_fffc, Fetched::Word(0)),
+        (0x8010_0000, fault(0x8010_0000)),
+        (0x7fff_fffc, fault(0x7fff_fffc)),
+        (0x1000_0000, fault(0x1000_0000)),
+    ];
+    assert_eq!(rt; fetch_scene(rt.alloc(), LAYOUT, &words, false, &bare)?, 7);
+    // page 1 is readable and writable, and has no code; page 2 is none
+    let page_fault = |tval| Fetched::Fault { cause: 12, tval };
+    let paged: [FetchRow; 2] = [(0x1000, page_fault(0x1000)), (0x2ffc, page_fault(0x2ffc))];
+    assert_eq!(rt; fetch_scene(rt.alloc(), LAYOUT, &TABLES, true, &paged)?, 2);
     Ok(())
 }
