@@ -1,0 +1,4 @@
+pub mod Placing
+pub mod Served
+pub mod Ending
+pub mod Moving
