@@ -2,3 +2,5 @@ pub mod Placing
 pub mod Served
 pub mod Ending
 pub mod Moving
+pub mod Copying
+pub mod Printed

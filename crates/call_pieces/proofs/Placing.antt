@@ -42,7 +42,6 @@ use Rattle.hart_calls.specs.Called.{HasDone, IsOfCalls}
 use Rattle.call_laws.specs.Found.{IsFound}
 use Rattle.call_laws.specs.Did.{did_call}
 use Rattle.call_laws.proofs.Calls.{calls_are}
-use Rattle.call_pieces.specs.Laws.{IsServed}
 
 pub calls_off : (w : Word) → IsOfCalls w → IsOffTable w
 calls_off Stop t = tt
@@ -154,15 +153,20 @@ halted_flush : (t at opaque : ℕ) (h : Bool) → flushing_of_call (if h then Be
 halted_flush t at opaque true = refl
 halted_flush t at opaque false = refl
 
-asked_flush : (p : Shown) (l : Layout) (c : Arch) (modes : Modes) (m : Memory) (asked : Asked) → IsServed p asked → flushing_of_call (call_asked l c modes m asked) ≡ None
-asked_flush p l c modes m (Asked.Fences harts span) s = absurd s
-asked_flush p l c modes m (Asked.Starts target at opaque) s = halted_flush target at opaque (is_halted (modes target))
-asked_flush p l c modes m asked s = refl
+-- it isn't a fence
+abbrev pub IsNoFence : Asked → Type 0
+IsNoFence (Asked.Fences harts span) = ⊥
+IsNoFence asked = Unit {0}
 
-flush_as : (w : Surroundings) (h : ℕ) (c : Arch) → flushing w h c Need.Sbi ≡ flushing_of_call (sbi_of w.layout w.modes w.memory c)
+asked_flush : (l : Layout) (c : Arch) (modes : Modes) (m : Memory) (asked : Asked) → IsNoFence asked → flushing_of_call (call_asked l c modes m asked) ≡ None
+asked_flush l c modes m (Asked.Fences harts span) s = absurd s
+asked_flush l c modes m (Asked.Starts target at opaque) s = halted_flush target at opaque (is_halted (modes target))
+asked_flush l c modes m asked s = refl
+
+pub flush_as : (w : Surroundings) (h : ℕ) (c : Arch) → flushing w h c Need.Sbi ≡ flushing_of_call (sbi_of w.layout w.modes w.memory c)
 unfolding flushing
 flush_as w h c = refl
 
 -- whatever the layout is said to be: only that of the port is asked for
-pub no_flush : (p : Shown) (c : Arch) (asked : Asked) → IsAsked (layout_of p) c asked → IsServed p asked → (w : Surroundings) (a : ℕ) → w.layout ≡ layout_of p → flushing w a c Need.Sbi ≡ None
-no_flush p c asked is s w a same = flush_as w a c ∙ ap (λ l. flushing_of_call (sbi_of l w.modes w.memory c)) same ∙ ap flushing_of_call (sym (is.is w.modes w.memory)) ∙ asked_flush p (layout_of p) c w.modes w.memory asked s
+pub no_flush : (p : Shown) (c : Arch) (asked : Asked) → IsAsked (layout_of p) c asked → IsNoFence asked → (w : Surroundings) (a : ℕ) → w.layout ≡ layout_of p → flushing w a c Need.Sbi ≡ None
+no_flush p c asked is s w a same = flush_as w a c ∙ ap (λ l. flushing_of_call (sbi_of l w.modes w.memory c)) same ∙ ap flushing_of_call (sym (is.is w.modes w.memory)) ∙ asked_flush (layout_of p) c w.modes w.memory asked s

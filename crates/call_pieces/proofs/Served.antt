@@ -1,5 +1,5 @@
 -- Calls are served, case by case.
-use Rattle.std.proofs.Common.{◌≡◌, ◌≢◌, ℕ, zero, suc, ◌<◌, ◌≤◌, arith, Bool, true, List, [], ◌∷◌, refl, sym, ap, subst, ◌∙◌}
+use Rattle.std.proofs.Common.{◌≡◌, ◌≢◌, ℕ, zero, suc, ◌<◌, ◌≤◌, arith, Bool, true, List, [], ◌∷◌, refl, false, sym, ap, subst, ◌∙◌}
 use Rattle.rv64_priv.specs.State.{Arch}
 use Rattle.rv64_priv.specs.Csr.{regime}
 use Rattle.rv64_priv.specs.Walk.{PageFault}
@@ -16,7 +16,7 @@ use Rattle.step_laws.specs.Map.{Hsm, Live}
 use Rattle.machine_model.specs.Event.{Exec, Outcome, only}
 use Rattle.machine_model.specs.Own.{Own, own_executed}
 use Rattle.machine_model.specs.Perform.{Surroundings}
-use Rattle.machine_model.specs.State.{Setup}
+use Rattle.machine_model.specs.State.{Setup, is_halted}
 use Rattle.guest_ram.specs.Ports.{Shown, Made, layout_of}
 use Rattle.tlb_entry.specs.declared.books.Book.{Book}
 use Rattle.turn_pieces.specs.Doing.{IsQuiet}
@@ -38,10 +38,10 @@ use Rattle.hart_calls.specs.Ends.{succeeds}
 use Rattle.hart_calls.specs.States.{IsRunner, mode_found}
 use Rattle.call_laws.specs.Found.{IsFound}
 use Rattle.call_laws.specs.Did.{answer_of, did_call}
-use Rattle.call_pieces.specs.Laws.{CallsAreServed, IsServed}
+use Rattle.call_pieces.specs.Laws.{CallsAreServed, OwnStartsAreServed}
 use Rattle.call_pieces.proofs.Ending.{byte_placed, full_placed, room_drawn, stop_placed}
 use Rattle.call_pieces.proofs.Moving.{all_stopped, ipi_is, left_placed, sent_placed, started_placed}
-use Rattle.call_pieces.proofs.Placing.{Behind, calm, calm_idle, did_is, exec_fit, no_flush, rested}
+use Rattle.call_pieces.proofs.Placing.{Behind, IsNoFence, calm, calm_idle, did_is, exec_fit, no_flush, rested}
 
 quiet_only : (h : ℕ) (answer : Answer) → IsQuiet (Exec h PageFault PageFault (only answer))
 quiet_only h answer = record { does = record { entry_is = refl; bytes_are = refl; reason_is = refl; starts_is = refl; stops_is = refl }; begins_not = refl }
@@ -57,7 +57,7 @@ load_no_store e = cc
 exchange_no_store : Exchange 1 ≢ Store
 exchange_no_store e = cc
 
-module _ (o : Own) (p q : Shown) (b : Book) (c : Arch) (section : Bool) (asked : Asked) (end : SbiEnd) (done : HasDone p q section asked end) (runner : IsRunner p) (is : IsAsked (layout_of p) c asked) (s : IsServed p asked) (wants : Wants o c Need.Sbi)
+module _ (o : Own) (p q : Shown) (b : Book) (c : Arch) (section : Bool) (asked : Asked) (end : SbiEnd) (done : HasDone p q section asked end) (runner : IsRunner p) (is : IsAsked (layout_of p) c asked) (s : IsNoFence asked) (wants : Wants o c Need.Sbi)
     (u : Setup) (a : ℕ) (l : Log) (t : Rests o p b (regime c) u a l) where
   pub layout_is : u.layout ≡ layout_of p
   layout_is = t.tells.tells.stands.layout
@@ -77,9 +77,9 @@ module _ (o : Own) (p q : Shown) (b : Book) (c : Arch) (section : Bool) (asked :
   ended k x = record { late = k; grows = x.grows; holds = x.tells }
 
   -- without a step
-  pub still : q ≡ p → did_call p q section asked end done ≡ only (answer_of end) → ((w : Surroundings) → IsFound w p q section asked end done) → Ends u a l (Tells (own_executed (did_call p q section asked end done) o) q b (regime c) u a)
+  pub still : q ≡ p → did_call p q section asked end done ≡ only (answer_of end) → ((w : Surroundings) → MayBe u a l w → IsFound w p q section asked end done) → Ends u a l (Tells (own_executed (did_call p q section asked end done) o) q b (regime c) u a)
   still same out found = ended _ (subst (λ (y : Shown). Behind (own_executed (did_call p q section asked end done) o) b (regime c) u a y l (did (Exec a PageFault PageFault (did_call p q section asked end done)) ∷ l)) (sym same)
-      (rested o b (regime c) (did_call p q section asked end done) u a p l l first t.idle there (fits l (λ w m. found w)) (subst (λ (d : Outcome). IsQuiet (Exec a PageFault PageFault d)) (sym out) (quiet_only a (answer_of end)))))
+      (rested o b (regime c) (did_call p q section asked end done) u a p l l first t.idle there (fits l found) (subst (λ (d : Outcome). IsQuiet (Exec a PageFault PageFault d)) (sym out) (quiet_only a (answer_of end)))))
 
   -- by one look at the state of a hart
   pub looked : (target found arg : ℕ) (op : WordOp) → (m : Made p q (Hsm target) op arg found) → target < (layout_of p).harts → op ≢ Store → Rattle.turn_pieces.specs.Doing.IsCalm (Hsm target) op found → ((n : ℕ) → Rattle.turn_pieces.specs.Writers.IsPlain n (Hsm target) op)
@@ -106,69 +106,75 @@ no_room : (u : Setup) (a : ℕ) (l : Log) (place : ℕ) (w : Surroundings) → M
 no_room u a l place w m one beyond = let room = room_drawn u a l place w m one in omega (arith, room, beyond)
 
 pub calls_served : CallsAreServed
-calls_served p q b c section (Asked.Gives error value) end done runner may is s o wants u a l t = still o p q b c section (Asked.Gives error value) end done runner is s wants u a l t done.1 refl (λ w. tt)
-calls_served p q b c section (Asked.GivesOne error) end done runner may is s o wants u a l t = still o p q b c section (Asked.GivesOne error) end done runner is s wants u a l t done.1 refl (λ w. tt)
+calls_served p q b c section (Asked.Gives error value) end done runner may is s o wants u a l t = still o p q b c section (Asked.Gives error value) end done runner is tt wants u a l t done.1 refl (λ w m. tt)
+calls_served p q b c section (Asked.GivesOne error) end done runner may is s o wants u a l t = still o p q b c section (Asked.GivesOne error) end done runner is tt wants u a l t done.1 refl (λ w m. tt)
 calls_served p q b c section (Asked.Sends mask) end done runner may is s o wants u a l t =
     let m = done.1.1 in
     let asked = Asked.Sends mask in
-    ended o p q b c section asked end done runner is s wants u a l t _
-    (sent_placed o b (regime c) u a (answer_of end) mask done.1.0 p q m l l (first o p q b c section asked end done runner is s wants u a l t) (there o p q b c section asked end done runner is s wants u a l t)
-    (fits o p q b c section asked end done runner is s wants u a l t _ (λ w y. ap w.memory (sym (ipi_is m.word m.name)) ∙ y.here.0 (subst IsShared (sym m.name) tt) or_no_store)))
+    ended o p q b c section asked end done runner is tt wants u a l t _
+    (sent_placed o b (regime c) u a (answer_of end) mask done.1.0 p q m l l (first o p q b c section asked end done runner is tt wants u a l t) (there o p q b c section asked end done runner is tt wants u a l t)
+    (fits o p q b c section asked end done runner is tt wants u a l t _ (λ w y. ap w.memory (sym (ipi_is m.word m.name)) ∙ y.here.0 (subst IsShared (sym m.name) tt) or_no_store)))
 calls_served p q b c section (Asked.Fences harts span) end done runner may is s o wants u a l t = absurd s
 calls_served p q b c section (Asked.Starts target at opaque) end (started other x) runner may is s o wants u a l t =
     let asked = Asked.Starts target at opaque in
     let done : HasTried p q target at opaque end = started other x in
-    ended o p q b c section asked end done runner is s wants u a l t _
-    (started_placed o b (regime c) u a (answer_of end) target at opaque p q x l l (first o p q b c section asked end done runner is s wants u a l t) (there o p q b c section asked end done runner is s wants u a l t)
-    (fits o p q b c section asked end done runner is s wants u a l t _ (λ w y. y.here.1 target (subst (λ (z : Layout). target < z.harts) (sym (layout_is o p q b c section asked end done runner is s wants u a l t)) is.sound.0) x.takes.name exchange_no_store ∙ same_mode 1)))
+    ended o p q b c section asked end done runner is tt wants u a l t _
+    (started_placed o b (regime c) u a (answer_of end) target at opaque p q x l l (first o p q b c section asked end done runner is tt wants u a l t) (there o p q b c section asked end done runner is tt wants u a l t)
+    (fits o p q b c section asked end done runner is tt wants u a l t _ (λ w y. y.here.1 target (subst (λ (z : Layout). target < z.harts) (sym (layout_is o p q b c section asked end done runner is tt wants u a l t)) is.sound.0) x.takes.name exchange_no_store ∙ same_mode 1)))
 calls_served p q b c section (Asked.Starts target at opaque) end (refused found other ne x) runner may is s o wants u a l t =
-    looked o p q b c section (Asked.Starts target at opaque) end (refused found other ne x) runner is s wants u a l t target found 3 (Exchange 1) x is.sound.0 exchange_no_store (λ e. ne (sym e)) (λ n. tt) refl (λ w e. e)
+    looked o p q b c section (Asked.Starts target at opaque) end (refused found other ne x) runner is tt wants u a l t target found 3 (Exchange 1) x is.sound.0 exchange_no_store (λ e. ne (sym e)) (λ n. tt) refl (λ w e. e)
 calls_served p q b c section (Asked.Starts target at opaque) end (is_own own same) runner may is s o wants u a l t = absurd (s own)
 calls_served p q b c section (Asked.TellsState target) end done runner may is s o wants u a l t =
-    looked o p q b c section (Asked.TellsState target) end done runner is s wants u a l t target done.0 0 Load done.2 is.sound load_no_store tt (λ n. tt) refl (λ w e. e)
+    looked o p q b c section (Asked.TellsState target) end done runner is tt wants u a l t target done.0 0 Load done.2 is.sound load_no_store tt (λ n. tt) refl (λ w e. e)
 calls_served p q b c section Asked.Leaves end (stopped left ne x) runner may is s o wants u a l t =
     let done : HasLeft p q end = stopped left ne x in
     let own : p.own.actor ≡ a = sym t.tells.tells.stands.actor in
-    ended o p q b c section Asked.Leaves end done runner is s wants u a l t _
+    ended o p q b c section Asked.Leaves end done runner is tt wants u a l t _
     (calm (own_executed (did_call p q section Asked.Leaves end done) o) b (regime c) u a x.stopped q Live Add minus_one left x.takes tt tt (λ n. tt) l _
-    (left_placed o b (regime c) u a (answer_of end) p x.stopped x.stops l l own (first o p q b c section Asked.Leaves end done runner is s wants u a l t) (there o p q b c section Asked.Leaves end done runner is s wants u a l t)
-    (fits o p q b c section Asked.Leaves end done runner is s wants u a l t _ (λ w y. tt))))
+    (left_placed o b (regime c) u a (answer_of end) p x.stopped x.stops l l own (first o p q b c section Asked.Leaves end done runner is tt wants u a l t) (there o p q b c section Asked.Leaves end done runner is tt wants u a l t)
+    (fits o p q b c section Asked.Leaves end done runner is tt wants u a l t _ (λ w y. tt))))
 calls_served p q b c section Asked.Leaves end (stopped_last mid stands x y) runner may is s o wants u a l t =
     let done : HasLeft p q end = stopped_last mid stands x y in
     let own : p.own.actor ≡ a = sym t.tells.tells.stands.actor in
-    ended o p q b c section Asked.Leaves end done runner is s wants u a l t _
-    (all_stopped o b (regime c) u a (answer_of end) stands p x.stopped mid q x.stops x.takes y l l own (first o p q b c section Asked.Leaves end done runner is s wants u a l t) (there o p q b c section Asked.Leaves end done runner is s wants u a l t)
-    (fits o p q b c section Asked.Leaves end done runner is s wants u a l t _ (λ w z. tt)))
+    ended o p q b c section Asked.Leaves end done runner is tt wants u a l t _
+    (all_stopped o b (regime c) u a (answer_of end) stands p x.stopped mid q x.stops x.takes y l l own (first o p q b c section Asked.Leaves end done runner is tt wants u a l t) (there o p q b c section Asked.Leaves end done runner is tt wants u a l t)
+    (fits o p q b c section Asked.Leaves end done runner is tt wants u a l t _ (λ w z. tt)))
 calls_served p q b c section (Asked.Ends reason) end done runner may is s o wants u a l t =
     let asked = Asked.Ends reason in
-    ended o p q b c section asked end done runner is s wants u a l t _
-    (stop_placed o b (regime c) u a (answer_of end) reason done.1.0 p q done.1.1 l l (first o p q b c section asked end done runner is s wants u a l t) (there o p q b c section asked end done runner is s wants u a l t)
-    (fits o p q b c section asked end done runner is s wants u a l t _ (λ w y. tt)))
-calls_served p q b c section (Asked.Prints from count) end (no_byte none same) runner may is s o wants u a l t = still o p q b c section (Asked.Prints from count) end (no_byte none same) runner is s wants u a l t same refl (λ w. tt)
+    ended o p q b c section asked end done runner is tt wants u a l t _
+    (stop_placed o b (regime c) u a (answer_of end) reason done.1.0 p q done.1.1 l l (first o p q b c section asked end done runner is tt wants u a l t) (there o p q b c section asked end done runner is tt wants u a l t)
+    (fits o p q b c section asked end done runner is tt wants u a l t _ (λ w y. tt)))
+calls_served p q b c section (Asked.Prints from count) end (no_byte none same) runner may is s o wants u a l t = still o p q b c section (Asked.Prints from count) end (no_byte none same) runner is tt wants u a l t same refl (λ w m. tt)
 calls_served p q b c section (Asked.Prints from count) end (needs_section some same) runner may is s o wants u a l t = absurd (some s)
 calls_served p q b c section (Asked.Prints from count) end (all_put finds some x) runner may is s o wants u a l t = absurd (some s)
 calls_served p q b c section (Asked.Prints from count) end (fills finds mid stands x y) runner may is s o wants u a l t = let fewer = x.fewer in absurd (omega (arith, fewer, s))
 calls_served p q b c section (Asked.PrintsByte byte) end (put x) runner may is s o wants u a l t =
     let asked = Asked.PrintsByte byte in
     let done : HasWrittenByte p q byte (succeeds 0) end = put x in
-    ended o p q b c section asked end done runner is s wants u a l t _
-    (byte_placed o b (regime c) u a (answer_of end) byte p q x l l (first o p q b c section asked end done runner is s wants u a l t) (there o p q b c section asked end done runner is s wants u a l t) (draws_there o p b (regime c) u a l t may)
-    (fits o p q b c section asked end done runner is s wants u a l t _ (λ w y. some_room u a _ x.place w y (one_drawn o p x.mid b (regime c) u a l t x.place x.draws) x.less)))
+    ended o p q b c section asked end done runner is tt wants u a l t _
+    (byte_placed o b (regime c) u a (answer_of end) byte p q x l l (first o p q b c section asked end done runner is tt wants u a l t) (there o p q b c section asked end done runner is tt wants u a l t) (draws_there o p b (regime c) u a l t may)
+    (fits o p q b c section asked end done runner is tt wants u a l t _ (λ w y. some_room u a _ x.place w y (one_drawn o p x.mid b (regime c) u a l t x.place x.draws) x.less)))
 calls_served p q b c section (Asked.PrintsByte byte) end (found_full place mid stands x y) runner may is s o wants u a l t =
     let asked = Asked.PrintsByte byte in
     let done : HasWrittenByte p q byte (succeeds 0) end = found_full place mid stands x y in
-    ended o p q b c section asked end done runner is s wants u a l t _
-    (full_placed o b (regime c) u a place stands p mid q x y l l (first o p q b c section asked end done runner is s wants u a l t) (there o p q b c section asked end done runner is s wants u a l t) (draws_there o p b (regime c) u a l t may)
-    (fits o p q b c section asked end done runner is s wants u a l t _ (λ w z. no_room u a _ place w z (ap (λ v. drawn_next v (Exchange 0) y.found (places (made (step_of p.own.actor x.draws.word Add 1 place) ∷ l))) y.exchanges.name ∙ one_drawn o p mid b (regime c) u a l t place x.draws) x.beyond)))
+    ended o p q b c section asked end done runner is tt wants u a l t _
+    (full_placed o b (regime c) u a place stands p mid q x y l l (first o p q b c section asked end done runner is tt wants u a l t) (there o p q b c section asked end done runner is tt wants u a l t) (draws_there o p b (regime c) u a l t may)
+    (fits o p q b c section asked end done runner is tt wants u a l t _ (λ w z. no_room u a _ place w z (ap (λ v. drawn_next v (Exchange 0) y.found (places (made (step_of p.own.actor x.draws.word Add 1 place) ∷ l))) y.exchanges.name ∙ one_drawn o p mid b (regime c) u a l t place x.draws) x.beyond)))
 calls_served p q b c section (Asked.PrintsOne byte) end (put x) runner may is s o wants u a l t =
     let asked = Asked.PrintsOne byte in
     let done : HasWrittenByte p q byte (SbiEnd.Single 0) end = put x in
-    ended o p q b c section asked end done runner is s wants u a l t _
-    (byte_placed o b (regime c) u a (answer_of end) byte p q x l l (first o p q b c section asked end done runner is s wants u a l t) (there o p q b c section asked end done runner is s wants u a l t) (draws_there o p b (regime c) u a l t may)
-    (fits o p q b c section asked end done runner is s wants u a l t _ (λ w y. some_room u a _ x.place w y (one_drawn o p x.mid b (regime c) u a l t x.place x.draws) x.less)))
+    ended o p q b c section asked end done runner is tt wants u a l t _
+    (byte_placed o b (regime c) u a (answer_of end) byte p q x l l (first o p q b c section asked end done runner is tt wants u a l t) (there o p q b c section asked end done runner is tt wants u a l t) (draws_there o p b (regime c) u a l t may)
+    (fits o p q b c section asked end done runner is tt wants u a l t _ (λ w y. some_room u a _ x.place w y (one_drawn o p x.mid b (regime c) u a l t x.place x.draws) x.less)))
 calls_served p q b c section (Asked.PrintsOne byte) end (found_full place mid stands x y) runner may is s o wants u a l t =
     let asked = Asked.PrintsOne byte in
     let done : HasWrittenByte p q byte (SbiEnd.Single 0) end = found_full place mid stands x y in
-    ended o p q b c section asked end done runner is s wants u a l t _
-    (full_placed o b (regime c) u a place stands p mid q x y l l (first o p q b c section asked end done runner is s wants u a l t) (there o p q b c section asked end done runner is s wants u a l t) (draws_there o p b (regime c) u a l t may)
-    (fits o p q b c section asked end done runner is s wants u a l t _ (λ w z. no_room u a _ place w z (ap (λ v. drawn_next v (Exchange 0) y.found (places (made (step_of p.own.actor x.draws.word Add 1 place) ∷ l))) y.exchanges.name ∙ one_drawn o p mid b (regime c) u a l t place x.draws) x.beyond)))
+    ended o p q b c section asked end done runner is tt wants u a l t _
+    (full_placed o b (regime c) u a place stands p mid q x y l l (first o p q b c section asked end done runner is tt wants u a l t) (there o p q b c section asked end done runner is tt wants u a l t) (draws_there o p b (regime c) u a l t may)
+    (fits o p q b c section asked end done runner is tt wants u a l t _ (λ w z. no_room u a _ place w z (ap (λ v. drawn_next v (Exchange 0) y.found (places (made (step_of p.own.actor x.draws.word Add 1 place) ∷ l))) y.exchanges.name ∙ one_drawn o p mid b (regime c) u a l t place x.draws) x.beyond)))
+
+pub own_starts_served : OwnStartsAreServed
+own_starts_served p q b c section target at opaque end (started other x) runner is own o wants u a l t = absurd (other own)
+own_starts_served p q b c section target at opaque end (refused found other ne x) runner is own o wants u a l t = absurd (other own)
+own_starts_served p q b c section target at opaque end (is_own same_hart same) runner is own o wants u a l t =
+    still o p q b c section (Asked.Starts target at opaque) end (is_own same_hart same) runner is tt wants u a l t.0 same refl (λ w m. subst (λ n. is_halted (w.modes n) ≡ false) (sym (own ∙ sym t.0.tells.tells.stands.actor)) (t.1 w m))

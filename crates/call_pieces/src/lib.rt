@@ -3,4 +3,4 @@
 
 mod laws;
 
-pub use laws::law_served;
+pub use laws::{law_printed, law_served};
