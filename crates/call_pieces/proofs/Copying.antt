@@ -32,7 +32,7 @@ use Rattle.turn_pieces.proofs.Sections.{Plain, plain_section}
 use Rattle.turn_pieces.proofs.Writers.{grows_then, may_named, owed_named}
 use Rattle.access_pieces.specs.Serving.{view}
 use Rattle.guest_devices.specs.Output.{HasPut}
-use Rattle.hart_calls.specs.Called.{IsOfCalls}
+use Rattle.hart_calls.specs.Called.{IsOfHartCalls}
 use Rattle.hart_calls.specs.Printing.{HasCopied, HasLoaded, HasLoadedIf, begins_word}
 use Rattle.hart_calls.proofs.Printed.{beside}
 use Rattle.call_pieces.specs.Printing.{AreInOrder}
@@ -136,7 +136,7 @@ module _ (o : Own) (b : Book) (r : Regime) (u : Setup) (a : ℕ) (kept : List Fi
         last = c.last;
         may = ap (λ w. may_draw_next w Load 0 (finds word) (may_draw (steps_of k))) m.name ∙ c.may;
         known = up_to (KnownAt (made s ∷ k)) n (λ i less. known_load (ram_word (from + i)) word (name_of word) m.index k m.name (c.known i less)) (known_here word (name_of word) m.index (known_word word k) m.name);
-        goes = fills_stay x mid b r (flushes_in a k) kept (s ∷ []) (ap (λ (z : Shown). z.own.steps) m.step) (same_goes 1 IsOfCalls x mid calls_off (goes_step IsOfCalls x mid word 0 (finds word) Load (Ram m.index) m.step m.may m.name tt)) c.goes;
+        goes = fills_stay x mid b r (flushes_in a k) kept (s ∷ []) (ap (λ (z : Shown). z.own.steps) m.step) (same_goes 1 IsOfHartCalls x mid calls_off (goes_step IsOfHartCalls x mid word 0 (finds word) Load (Ram m.index) m.step m.may m.name tt)) c.goes;
       }
 
   same_ready : (n : ℕ) (x : Shown) (l k : Log) → 2 ^ 31 ≤ from → begins_word from n ≡ false → Copying n x l k → Ready n x l k
@@ -187,8 +187,8 @@ module _ (o : Own) (b : Book) (r : Regime) (u : Setup) (a : ℕ) (kept : List Fi
             ∙ ap (λ (z : Bool). z && nat_lt m.place console_places) c.may ∙ lt-ltb m.place console_places m.less;
         known = λ i lower. (ap (λ w. known_word_next (ram_word (from + i)) w Store m.stores.word 0 (known_word (ram_word (from + i)) k1)) m.stores.name
             ∙ ap (λ w. known_word_next (ram_word (from + i)) w Add m.draws.word m.place (known_word (ram_word (from + i)) k)) m.draws.name) ∙ c.known i lower;
-        goes = fills_stay m.mid y b r (flushes_in a k1) kept (t ∷ []) (ap (λ (z : Shown). z.own.steps) m.stores.step) (same_goes 1 IsOfCalls m.mid y calls_off (goes_made IsOfCalls m.mid y (Console m.place) Store (byte + 2 ^ 8) 0 m.stores tt))
-            (fills_stay mid m.mid b r (flushes_in a k) kept (s ∷ []) (ap (λ (z : Shown). z.own.steps) m.draws.step) (same_goes 1 IsOfCalls mid m.mid calls_off (goes_made IsOfCalls mid m.mid Cons Add 1 m.place m.draws tt)) c.goes);
+        goes = fills_stay m.mid y b r (flushes_in a k1) kept (t ∷ []) (ap (λ (z : Shown). z.own.steps) m.stores.step) (same_goes 1 IsOfHartCalls m.mid y calls_off (goes_made IsOfHartCalls m.mid y (Console m.place) Store (byte + 2 ^ 8) 0 m.stores tt))
+            (fills_stay mid m.mid b r (flushes_in a k) kept (s ∷ []) (ap (λ (z : Shown). z.own.steps) m.draws.step) (same_goes 1 IsOfHartCalls mid m.mid calls_off (goes_made IsOfHartCalls mid m.mid Cons Add 1 m.place m.draws tt)) c.goes);
       }
 
   -- all of them

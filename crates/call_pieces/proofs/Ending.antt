@@ -34,7 +34,7 @@ use Rattle.turn_pieces.proofs.Offers.{draw_owes, free}
 use Rattle.turn_pieces.proofs.Writers.{clear_did, owed_named, part_did, tells_did}
 use Rattle.access_pieces.specs.Serving.{view}
 use Rattle.guest_devices.specs.Output.{HasFoundFull, HasPut, HasSetStop}
-use Rattle.hart_calls.specs.Called.{IsOfCalls}
+use Rattle.hart_calls.specs.Called.{IsOfHartCalls}
 use Rattle.call_pieces.proofs.Placing.{Behind, calls_off, placed}
 
 pub cut_none : (ds bs : List ℕ) → ds ≡ [] → bs ≡ [] → IsCutShort ds bs
@@ -107,8 +107,8 @@ module _ (o : Own) (b : Book) (r : Regime) (u : Setup) (a : ℕ) where
             none_left = ap (λ w. unstored_next w Store 0 [] (unstored k2)) z.name;
           };
           fills = t.tells.fills;
-          goes = fills_stay m.mid y b r (flushes_in a k1) t.tells.fills (d ∷ []) (ap (λ (g : Shown). g.own.steps) z.step) (same_goes 1 IsOfCalls m.mid y calls_off (goes_made IsOfCalls m.mid y (Console m.place) Store (byte + 2 ^ 8) 0 z tt))
-              (fills_stay x m.mid b r (flushes_in a k) t.tells.fills (s ∷ []) (ap (λ (g : Shown). g.own.steps) v.step) (same_goes 1 IsOfCalls x m.mid calls_off (goes_made IsOfCalls x m.mid Cons Add 1 m.place v tt)) t.tells.goes);
+          goes = fills_stay m.mid y b r (flushes_in a k1) t.tells.fills (d ∷ []) (ap (λ (g : Shown). g.own.steps) z.step) (same_goes 1 IsOfHartCalls m.mid y calls_off (goes_made IsOfHartCalls m.mid y (Console m.place) Store (byte + 2 ^ 8) 0 z tt))
+              (fills_stay x m.mid b r (flushes_in a k) t.tells.fills (s ∷ []) (ap (λ (g : Shown). g.own.steps) v.step) (same_goes 1 IsOfHartCalls x m.mid calls_off (goes_made IsOfHartCalls x m.mid Cons Add 1 m.place v tt)) t.tells.goes);
         };
       }
 
@@ -149,8 +149,8 @@ module _ (o : Own) (b : Book) (r : Regime) (u : Setup) (a : ℕ) where
         tells = record {
           tells = tells_did o (view y) u a k2 e st refl refl ((λ i. unstored_did (due i) [] (left i)));
           fills = t.tells.fills;
-          goes = fills_stay mid y b r (flushes_in a k1) t.tells.fills (d ∷ []) (ap (λ (g : Shown). g.own.steps) z.step) (same_goes 1 IsOfCalls mid y calls_off (goes_made IsOfCalls mid y Stop (Exchange 0) 4 n.found z tt))
-              (fills_stay x mid b r (flushes_in a k) t.tells.fills (s ∷ []) (ap (λ (g : Shown). g.own.steps) v.step) (same_goes 1 IsOfCalls x mid calls_off (goes_made IsOfCalls x mid Cons Add 1 place v tt)) t.tells.goes);
+          goes = fills_stay mid y b r (flushes_in a k1) t.tells.fills (d ∷ []) (ap (λ (g : Shown). g.own.steps) z.step) (same_goes 1 IsOfHartCalls mid y calls_off (goes_made IsOfHartCalls mid y Stop (Exchange 0) 4 n.found z tt))
+              (fills_stay x mid b r (flushes_in a k) t.tells.fills (s ∷ []) (ap (λ (g : Shown). g.own.steps) v.step) (same_goes 1 IsOfHartCalls x mid calls_off (goes_made IsOfHartCalls x mid Cons Add 1 place v tt)) t.tells.goes);
         };
       }
 

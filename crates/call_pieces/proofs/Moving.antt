@@ -34,7 +34,7 @@ use Rattle.turn_pieces.proofs.Offers.{free}
 use Rattle.turn_pieces.proofs.Writers.{owed_named, tells_did}
 use Rattle.access_pieces.specs.Serving.{view}
 use Rattle.guest_devices.specs.Output.{HasSetStop}
-use Rattle.hart_calls.specs.Called.{IsOfCalls}
+use Rattle.hart_calls.specs.Called.{IsOfHartCalls}
 use Rattle.hart_calls.specs.States.{HasStarted}
 use Rattle.call_pieces.proofs.Ending.{cut_none}
 use Rattle.call_pieces.proofs.Placing.{Behind, calls_off, calm, placed, plainly}
@@ -135,6 +135,6 @@ module _ (o : Own) (b : Book) (r : Regime) (u : Setup) (a : ℕ) where
         tells = record {
           tells = tells_did o' (view z) u a k2 f st refl refl ((λ i. unstored_did (due i) [] (clean i)));
           fills = t1.tells.fills;
-          goes = fills_stay y z b r (flushes_in a k1) t1.tells.fills (d ∷ []) (ap (λ (g : Shown). g.own.steps) v.step) (same_goes 1 IsOfCalls y z calls_off (goes_made IsOfCalls y z Stop (Exchange 0) 5 n.found v tt)) t1.tells.goes;
+          goes = fills_stay y z b r (flushes_in a k1) t1.tells.fills (d ∷ []) (ap (λ (g : Shown). g.own.steps) v.step) (same_goes 1 IsOfHartCalls y z calls_off (goes_made IsOfHartCalls y z Stop (Exchange 0) 5 n.found v tt)) t1.tells.goes;
         };
       }

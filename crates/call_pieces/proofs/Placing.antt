@@ -38,12 +38,12 @@ use Rattle.access_pieces.specs.Serving.{Tells, Wants, view}
 use Rattle.hart_calls.specs.declared.asking.Asked.{Asked}
 use Rattle.hart_calls.specs.declared.outcomes.SbiEnd.{SbiEnd}
 use Rattle.hart_calls.specs.Asked.{IsAsked, call_asked}
-use Rattle.hart_calls.specs.Called.{HasDone, IsOfCalls}
+use Rattle.hart_calls.specs.Called.{HasDone, IsOfHartCalls}
 use Rattle.call_laws.specs.Found.{IsFound}
 use Rattle.call_laws.specs.Did.{did_call}
 use Rattle.call_laws.proofs.Calls.{calls_are}
 
-pub calls_off : (w : Word) → IsOfCalls w → IsOffTable w
+pub calls_off : (w : Word) → IsOfHartCalls w → IsOffTable w
 calls_off Stop t = tt
 calls_off Live t = tt
 calls_off Cons t = tt
@@ -65,7 +65,7 @@ module _ (o : Own) (b : Book) (r : Regime) (u : Setup) (a : ℕ) where
     pub tells : Tells o y b r u a k
 
   -- by a step that needs no event
-  pub calm : (x y : Shown) (w : Word) (op : WordOp) (arg answer : ℕ) (m : Made x y w op arg answer) → IsOfCalls w → IsCalm w op answer → ((n : ℕ) → IsPlain n w op)
+  pub calm : (x y : Shown) (w : Word) (op : WordOp) (arg answer : ℕ) (m : Made x y w op arg answer) → IsOfHartCalls w → IsCalm w op answer → ((n : ℕ) → IsPlain n w op)
       → (l k : Log) → Behind x l k → Behind y l (made (step_of x.own.actor m.word op arg answer) ∷ k)
   calm x y w op arg answer m on calm_is plain_is l k t =
       let s = step_of x.own.actor m.word op arg answer in
@@ -76,7 +76,7 @@ module _ (o : Own) (b : Book) (r : Regime) (u : Setup) (a : ℕ) where
         tells = record {
           tells = quietly_tells Anywhere 1 o (view x) (view y) u a k quiet t.tells.tells;
           fills = t.tells.fills;
-          goes = fills_stay x y b r (flushes_in a k) t.tells.fills (s ∷ []) (ap (λ (z : Shown). z.own.steps) m.step) (same_goes 1 IsOfCalls x y calls_off (goes_made IsOfCalls x y w op arg answer m on)) t.tells.goes;
+          goes = fills_stay x y b r (flushes_in a k) t.tells.fills (s ∷ []) (ap (λ (z : Shown). z.own.steps) m.step) (same_goes 1 IsOfHartCalls x y calls_off (goes_made IsOfHartCalls x y w op arg answer m on)) t.tells.goes;
         };
       }
 
@@ -108,7 +108,7 @@ rested o b r out u a y l k t idle hart fit quiet =
     }
 
 -- a step that a log may make, and that leaves nothing open
-pub plainly : (o : Own) (b : Book) (r : Regime) (u : Setup) (a : ℕ) (x y : Shown) (w : Word) (op : WordOp) (arg answer : ℕ) (m : Made x y w op arg answer) (l k : Log) → IsOfCalls w → Behind o b r u a x l k
+pub plainly : (o : Own) (b : Book) (r : Regime) (u : Setup) (a : ℕ) (x y : Shown) (w : Word) (op : WordOp) (arg answer : ℕ) (m : Made x y w op arg answer) (l k : Log) → IsOfHartCalls w → Behind o b r u a x l k
     → MayMake u a k (step_of x.own.actor m.word op arg answer) → owed (made (step_of x.own.actor m.word op arg answer) ∷ k) ≡ nothing → places (made (step_of x.own.actor m.word op arg answer) ∷ k) ≡ [] → unstored (made (step_of x.own.actor m.word op arg answer) ∷ k) ≡ None
     → Behind o b r u a y l (made (step_of x.own.actor m.word op arg answer) ∷ k)
 plainly o b r u a x y w op arg answer m l k on t may idle drawn left =
@@ -117,12 +117,12 @@ plainly o b r u a x y w op arg answer m l k on t may idle drawn left =
       tells = record {
         tells = record { stands = step_stands o (view x) (view y) u a k s (ap view m.step) t.tells.tells.stands; clear = subst IsClear (sym idle) tt; none_drawn = drawn; none_left = left };
         fills = t.tells.fills;
-        goes = fills_stay x y b r (flushes_in a k) t.tells.fills (s ∷ []) (ap (λ (z : Shown). z.own.steps) m.step) (same_goes 1 IsOfCalls x y calls_off (goes_made IsOfCalls x y w op arg answer m on)) t.tells.goes;
+        goes = fills_stay x y b r (flushes_in a k) t.tells.fills (s ∷ []) (ap (λ (z : Shown). z.own.steps) m.step) (same_goes 1 IsOfHartCalls x y calls_off (goes_made IsOfHartCalls x y w op arg answer m on)) t.tells.goes;
       };
     }
 
 -- it stands at a step
-pub placed : (o : Own) (b : Book) (r : Regime) (out : Outcome) (u : Setup) (a : ℕ) (x y : Shown) (w : Word) (op : WordOp) (arg answer : ℕ) (m : Made x y w op arg answer) (d : Owed) (l k : Log) → IsOfCalls w → Behind o b r u a x l k → a < u.layout.harts
+pub placed : (o : Own) (b : Book) (r : Regime) (out : Outcome) (u : Setup) (a : ℕ) (x y : Shown) (w : Word) (op : WordOp) (arg answer : ℕ) (m : Made x y w op arg answer) (d : Owed) (l k : Log) → IsOfHartCalls w → Behind o b r u a x l k → a < u.layout.harts
     → MayMake u a k (step_of x.own.actor m.word op arg answer) → owed (made (step_of x.own.actor m.word op arg answer) ∷ k) ≡ d → places (made (step_of x.own.actor m.word op arg answer) ∷ k) ≡ [] → unstored (made (step_of x.own.actor m.word op arg answer) ∷ k) ≡ None
     → ((bs : List ℕ) → unstored_did d bs None ≡ None) → IsExec u a (made (step_of x.own.actor m.word op arg answer) ∷ k) PageFault PageFault out o
     → PaysFor a (books (made (step_of x.own.actor m.word op arg answer) ∷ k)) d (Exec a PageFault PageFault out)
@@ -135,7 +135,7 @@ placed o b r out u a x y w op arg answer m d l k on t hart may due drawn left le
       tells = record {
         tells = tells_did o (view y) u a (made s ∷ k) e st refl (places_did (made s ∷ k) e drawn) ((λ i. unstored_did (due i) (did_of e).bytes (left i)) ∙ leaves (did_of e).bytes);
         fills = t.tells.fills;
-        goes = fills_stay x y b r (flushes_in a k) t.tells.fills (s ∷ []) (ap (λ (z : Shown). z.own.steps) m.step) (same_goes 1 IsOfCalls x y calls_off (goes_made IsOfCalls x y w op arg answer m on)) t.tells.goes;
+        goes = fills_stay x y b r (flushes_in a k) t.tells.fills (s ∷ []) (ap (λ (z : Shown). z.own.steps) m.step) (same_goes 1 IsOfHartCalls x y calls_off (goes_made IsOfHartCalls x y w op arg answer m on)) t.tells.goes;
       };
     }
 

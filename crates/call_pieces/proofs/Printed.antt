@@ -47,7 +47,7 @@ use Rattle.access_pieces.specs.Serving.{Rests, Tells, Wants, view}
 use Rattle.hart_calls.specs.declared.asking.Asked.{Asked}
 use Rattle.hart_calls.specs.declared.outcomes.SbiEnd.{SbiEnd}
 use Rattle.hart_calls.specs.Asked.{IsAsked}
-use Rattle.hart_calls.specs.Called.{HasWritten, IsOfCalls, all_put, fills, no_byte}
+use Rattle.hart_calls.specs.Called.{HasWritten, IsOfHartCalls, all_put, fills, no_byte}
 use Rattle.hart_calls.specs.Ends.{succeeds}
 use Rattle.hart_calls.specs.Printing.{HasCopied, HasRunOut, begins_word}
 use Rattle.hart_calls.specs.States.{IsRunner}
@@ -187,8 +187,8 @@ module _ (p q : Shown) (b : Book) (c : Arch) (from count first : ℕ) (runner : 
         holds = record {
           tells = tells_did o (view q) u a k2 e st refl refl (λ i. unstored_did (due i) (bytes_from finds from n) (left i));
           fills = t.tells.fills;
-          goes = fills_stay mid q b (regime c) (flushes_in a k1) t.tells.fills (d ∷ []) (ap (λ (v : Shown). v.own.steps) y.exchanges.step) (same_goes 1 IsOfCalls mid q calls_off (goes_made IsOfCalls mid q Stop (Exchange 0) 4 y.found y.exchanges tt))
-              (fills_stay f.mid mid b (regime c) (flushes_in a k) t.tells.fills (s ∷ []) (ap (λ (v : Shown). v.own.steps) f.draws.draws.step) (same_goes 1 IsOfCalls f.mid mid calls_off (goes_made IsOfCalls f.mid mid Cons Add 1 f.place f.draws.draws tt)) j.goes);
+          goes = fills_stay mid q b (regime c) (flushes_in a k1) t.tells.fills (d ∷ []) (ap (λ (v : Shown). v.own.steps) y.exchanges.step) (same_goes 1 IsOfHartCalls mid q calls_off (goes_made IsOfHartCalls mid q Stop (Exchange 0) 4 y.found y.exchanges tt))
+              (fills_stay f.mid mid b (regime c) (flushes_in a k) t.tells.fills (s ∷ []) (ap (λ (v : Shown). v.own.steps) f.draws.draws.step) (same_goes 1 IsOfHartCalls f.mid mid calls_off (goes_made IsOfHartCalls f.mid mid Cons Add 1 f.place f.draws.draws tt)) j.goes);
         };
       }
     where
