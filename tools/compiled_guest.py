@@ -4,6 +4,9 @@
 The guest, in guest/, multiplies and divides, sets up page tables, uses atomics, faults, takes an interrupt and runs a user. It
 needs a GNU compiler for RISC-V, and for the comparison with QEMU qemu-system-riscv64: where the one is missing nothing is done,
 and where the other is, the levels alone are compared. It says which.
+
+Then it does the same with examples/c/hello.c, and with examples/libc, a guest that prints and allocates by picolibc, where that
+library is installed for the compiler.
 """
 import itertools
 import pathlib
@@ -18,12 +21,20 @@ COMPILERS = ["riscv64-unknown-elf-gcc", "riscv64-linux-gnu-gcc"]
 FLAGS = "-march=rv64ima_zicsr -mabi=lp64 -mcmodel=medany -ffreestanding -fno-pic -nostdlib -static -Wl,--build-id=none".split()
 SOURCES = [GUEST / name for name in ("start.S", "guest.c", "arithmetic.c", "atomics.c")]
 LEVELS = ["-O0", "-O1", "-O2", "-O3"]
+HELLO = TOP / "examples/c"
+LIBRARY = TOP / "examples/libc"
+LIBRARY_FLAGS = "-march=rv64im -mabi=lp64 -mcmodel=medany --specs=picolibc.specs -nostartfiles -static -Wl,--build-id=none".split()
 
 
-def compiled(compiler, level, folder):
+def compiled(compiler, flags, script, sources, level, folder):
     guest = folder / f"guest{level}.elf"
-    subprocess.run([compiler, *FLAGS, level, "-T", GUEST / "link.ld", "-o", guest, *SOURCES], check=True)
+    subprocess.run([compiler, *flags, level, "-T", script, "-o", guest, *sources], check=True)
     return guest
+
+
+def has_library(compiler):
+    found = subprocess.run([compiler, "-print-file-name=picolibc.specs"], capture_output=True, text=True, check=True)
+    return pathlib.Path(found.stdout.strip()).is_absolute()
 
 
 def ours(folder, guest):
@@ -35,9 +46,8 @@ def ours(folder, guest):
     return done.stdout.decode()
 
 
-def emulated(emulator, guest):
-    """What QEMU prints. With one hart it makes a load and a store of an atomic, whose page fault is then the load's."""
-    command = [emulator, "-M", "virt", "-smp", "2", "-bios", "none", "-nographic", "-kernel", guest]
+def emulated(emulator, guest, harts):
+    command = [emulator, "-M", "virt", "-smp", str(harts), "-bios", "none", "-nographic", "-kernel", guest]
     return subprocess.run(command, stdin=subprocess.DEVNULL, stdout=subprocess.PIPE, timeout=60).stdout.decode()
 
 
@@ -48,23 +58,35 @@ def same(seen, what, wanted, other):
             sys.exit(f"line {number}: {what} printed {line!r}, and {other} {beside!r}")
 
 
+def compare(name, compiler, flags, script, sources, emulator, harts=1):
+    """Runs a guest at each level, and says how many lines it printed. QEMU begins with all its harts at once."""
+    first = None
+    with tempfile.TemporaryDirectory() as folder:
+        folder = pathlib.Path(folder)
+        for level in LEVELS:
+            guest = compiled(compiler, flags, script, sources, level, folder)
+            printed = ours(folder, guest)
+            first = first or printed
+            same(printed, f"tlbvm at {level}", first, f"at {LEVELS[0]}")
+            if emulator:
+                same(printed, f"tlbvm at {level}", emulated(emulator, guest, harts), "QEMU")
+    lines = f"{name}: the same {len(first.splitlines())} lines at {', '.join(LEVELS)}"
+    print(f"{lines} and by QEMU" if emulator else f"{lines}; not compared with QEMU: there is no qemu-system-riscv64")
+
+
 def main():
     compiler = next((found for found in map(shutil.which, COMPILERS) if found), None)
     if compiler is None:
         sys.exit("skipped: there is no GNU compiler for RISC-V")
     emulator = shutil.which("qemu-system-riscv64")
-    first = None
-    with tempfile.TemporaryDirectory() as folder:
-        folder = pathlib.Path(folder)
-        for level in LEVELS:
-            guest = compiled(compiler, level, folder)
-            printed = ours(folder, guest)
-            first = first or printed
-            same(printed, f"tlbvm at {level}", first, f"at {LEVELS[0]}")
-            if emulator:
-                same(printed, f"tlbvm at {level}", emulated(emulator, guest), "QEMU")
-    lines = f"the same {len(first.splitlines())} lines at {', '.join(LEVELS)}"
-    print(f"{lines} and by QEMU" if emulator else f"{lines}; not compared with QEMU: there is no qemu-system-riscv64")
+    # With one hart QEMU makes a load and a store of an atomic, whose page fault is then the load's.
+    compare("tools/guest", compiler, FLAGS, GUEST / "link.ld", SOURCES, emulator, harts=2)
+    compare("examples/c", compiler, FLAGS, HELLO / "link.ld", [HELLO / "start.S", HELLO / "hello.c"], emulator)
+    if has_library(compiler):
+        sources = [LIBRARY / name for name in ("start.S", "main.c", "port.c")]
+        compare("examples/libc", compiler, LIBRARY_FLAGS, LIBRARY / "link.ld", sources, emulator)
+    else:
+        print("examples/libc: skipped, there is no picolibc for the compiler")
 
 
 if __name__ == "__main__":

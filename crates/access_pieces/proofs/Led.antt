@@ -24,11 +24,12 @@ use Rattle.turn_pieces.proofs.Writers.{calm_owes, quietly_grows, quietly_tells}
 use Rattle.guest_access.specs.Reaching.{Translates}
 use Rattle.access_pieces.specs.Serving.{Tells, view}
 use Rattle.access_pieces.proofs.Calm.{Calmly, IsStepped, translated_calmly}
-use Rattle.access_pieces.specs.Translating.{Led}
+use Rattle.access_pieces.specs.Translating.{Led, spot}
+use Rattle.access_pieces.proofs.Awaited.{answer_given, awaited_quietly, pages_of}
 use Rattle.access_pieces.proofs.Spots.{flushes_quietly, leads}
 
-calm_quiet : (p q : Shown) (k : Calmly p q) → QuietBy IsInner (length k.added) (view p) (view q)
-calm_quiet p q k = record { added = k.added; few = omega arith; grown = ap view k.grown; calm = k.calm; inner = k.inner }
+calm_quiet : (pages : List ℕ) (p q : Shown) (k : Calmly pages p q) → QuietBy IsInner (length k.added) (view p) (view q)
+calm_quiet pages p q k = record { added = k.added; few = omega arith; grown = ap view k.grown; calm = k.calm; inner = k.inner }
 
 owes_nothing : (a : ℕ) (r : List Step) (l : Log) → IsStepped r → AreCalm a r → owed (quietly r l) ≡ nothing
 owes_nothing a [] l k c = absurd k
@@ -38,8 +39,9 @@ pub led : (o : Own) (p m : Shown) (b b' : Book) (c : Arch) (kind : Kind) (va : �
     → Led o p m b' c kind va t u a l
 unfolding calm_quiet
 led o p m b b' c kind va t u a l can call x =
-    let k = translated_calmly p m b b' (regime c) va kind t can call.made in
     let y = call.allowed (flushes_in a l) x.fills x.goes in
+    let pages = pages_of kind (spot t) in
+    let k = translated_calmly pages p m b b' (regime c) va kind t can (answer_given p.machine.layout.pages (regime c) kind va t y.added (flushes_in a l) y.allowed) call.made in
     let same : y.added ≡ k.calmly.added = append_cancel_right y.added k.calmly.added p.own.steps (sym y.steps_are ∙ ap (λ (z : Shown). z.own.steps) k.calmly.grown) in
     let items : made_all y.added ++ flushes_in a l ≡ flushes_in a (quietly k.calmly.added l) = ap (λ r. made_all r ++ flushes_in a l) same ∙ sym (flushes_quietly a k.calmly.added l) in
     let calm : AreCalm a k.calmly.added = subst (λ n. AreCalm n k.calmly.added) (sym x.tells.stands.actor) k.calmly.calm in record {
@@ -47,11 +49,12 @@ led o p m b b' c kind va t u a l can call x =
       steps_are = ap (λ (z : Shown). z.own.steps) k.calmly.grown;
       grows = quietly_grows u a k.calmly.added l calm x.tells.clear x.tells.none_drawn;
       tells = record {
-        tells = quietly_tells IsInner (length k.calmly.added) o (view p) (view m) u a l (calm_quiet p m k.calmly) x.tells;
+        tells = quietly_tells IsInner (length k.calmly.added) o (view p) (view m) u a l (calm_quiet pages p m k.calmly) x.tells;
         fills = y.more ++ x.fills;
         goes = subst (λ (z : List Item). GoesWithFills m b' (regime c) z (y.more ++ x.fills)) items y.goes;
       };
       clear = owes_nothing a k.calmly.added l k.some calm;
+      marks = λ page out. awaited_quietly u a page pages k.calmly.added l k.calmly.marks out;
       leads_to = λ is. leads u.layout.pages a c kind va t k.calmly.added l is
           (subst (λ (r : List Step). IsAllowed u.layout.pages (regime c) kind va t r (flushes_in a l)) same
           (subst (λ (z : Layout). IsAllowed z.pages (regime c) kind va t y.added (flushes_in a l)) (sym x.tells.stands.layout) y.allowed));

@@ -12,3 +12,5 @@ pub mod Amos
 pub mod StoresInRam
 pub mod StoresOnDevices
 pub mod Stores
+pub mod Awaited
+pub mod GivenUp

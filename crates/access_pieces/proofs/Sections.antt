@@ -1,5 +1,5 @@
 -- An access over two words: its hart is in its section, and the words are two.
-use Rattle.std.proofs.Common.{◌≡◌, ◌≢◌, ℕ, ◌+◌, ◌%◌, ◌<◌, ◌≤◌, ◌^◌, Bool, true, false, Result, Ok, Err, refl, sym, subst, ◌∙◌, arith, leb-true}
+use Rattle.std.proofs.Common.{◌≡◌, ◌≢◌, ℕ, ◌+◌, ◌%◌, ◌<◌, ◌≤◌, ◌^◌, Bool, true, false, Some, None, Result, Ok, Err, refl, sym, subst, ◌∙◌, arith, leb-true}
 use Rattle.std.specs.Prelude.{nat_le, if◌then◌else◌, IsTrue}
 use Rattle.rv64_priv.specs.State.{Arch}
 use Rattle.rv64_priv.specs.Csr.{regime}
@@ -22,7 +22,7 @@ use Rattle.guest_access.specs.declared.outcomes.Got.{Got}
 use Rattle.guest_access.specs.declared.outcomes.Got.TheVariants as gets
 use Rattle.guest_access.specs.declared.reaching.Place.{Place}
 use Rattle.guest_access.specs.declared.reaching.Place.TheVariants as at
-use Rattle.guest_access.specs.Reaching.{HasReached, by_one, by_two, first_reached, second_reached}
+use Rattle.guest_access.specs.Reaching.{HasReached, by_one, by_two, first_reached, over_from, second_reached}
 use Rattle.guest_access.specs.Stepping.{HasStepped}
 use Rattle.step_laws.specs.declared.steps.WordOp.{WordOp}
 use Rattle.guest_access.proofs.Areas.{fill_aside}
@@ -158,3 +158,14 @@ reach_within p m b b' c kind va width section x (by_two mid between t first call
 
 pub word_within : (p m : Shown) (b b' : Book) (c : Arch) (kind : Kind) (va width pa : ℕ) (section : Bool) → HasReached p m b b' (regime c) kind va width section (Ok (at.Word pa)) → pa % 8 + width ≤ 8
 word_within p m b b' c kind va width pa section k = reach_within p m b b' c kind va width section (Ok (at.Word pa)) k
+
+-- a second page is translated only where the access crosses into it
+pub some_crosses : (va width first : ℕ) (t : Translated) → over_from va width t ≡ Some first → crosses_page va width ≡ true
+some_crosses va width first (gives.Ram pa) e = by (crosses_page va width) e
+  where
+    by : (c : Bool) → (if c then Some pa else None) ≡ Some first → c ≡ true
+    by true e = refl
+    by false e = cc
+some_crosses va width first (gives.Device pa) e = cc
+some_crosses va width first (gives.Fault cause tval) e = cc
+some_crosses va width first (gives.Busy busy) e = cc

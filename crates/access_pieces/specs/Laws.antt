@@ -1,5 +1,6 @@
 -- Laws of accesses: what the steps that an access made are to its hart's log.
-use Rattle.std.specs.Prelude.{◌≡◌, ℕ, ◌<◌, ◌^◌, Bool, true, IsTrue}
+use Rattle.rv64_priv.specs.declared.state.Regime.{Regime}
+use Rattle.std.specs.Prelude.{◌≡◌, ℕ, ◌<◌, ◌^◌, Bool, true, IsTrue, IsSome, ◌∷◌}
 use Rattle.rv64_priv.specs.State.{Arch}
 use Rattle.rv64_priv.specs.Csr.{regime}
 use Rattle.rv64_exec.specs.Widths.{is_width}
@@ -13,20 +14,27 @@ use Rattle.guest_access.specs.Atomics.{HasConditional, HasOperatedAt, HasReserve
 use Rattle.guest_access.specs.Loading.{HasLoaded}
 use Rattle.guest_access.specs.Storing.{HasStored}
 use Rattle.turn_pieces.specs.Draws.{may_draw}
+use Rattle.machine_model.specs.Event.{GiveUp}
 use Rattle.machine_model.specs.Own.{Own}
 use Rattle.machine_model.specs.State.{Setup}
 use Rattle.rv64_priv.specs.declared.state.Kind.{Kind}
 use Rattle.kept_fills.specs.Beside.{IsBeside}
 use Rattle.tlb_fill.specs.declared.translation.Translated.{Translated}
 use Rattle.guest_access.specs.Reaching.{CanAccess, Translates}
-use Rattle.turn_pieces.specs.Log.{Log}
-use Rattle.access_pieces.specs.Serving.{Serves, Tells}
+use Rattle.turn_pieces.specs.Log.{Log, did}
+use Rattle.turn_pieces.specs.Right.{IsRight}
+use Rattle.access_pieces.specs.Serving.{MayGiveUp, Rests, Serves, Tells, given_up}
 use Rattle.access_pieces.specs.Translating.{Led}
 
 -- a translation is in each log that told of the port before
 abbrev pub TranslationsLead : Type 0
 TranslationsLead = (p q : Shown) (b b' : Book) (c : Arch) (kind : Kind) (va : ℕ) (t : Translated) → IsBeside b p → Translates p q b b' (regime c) kind va t
     → (o : Own) (u : Setup) (a : ℕ) (l : Log) → Tells o p b (regime c) u a l → Led o p q b' c kind va t u a l
+
+-- where an instruction may be given up, the event that says so may stand, and behind it nothing waits that didn't wait before
+abbrev pub GiveUpsStand : Type 0
+GiveUpsStand = (others : ℕ → Bool) (o : Own) (q : Shown) (b : Book) (r : Regime) (u : Setup) (a : ℕ) (l : Log) → IsSome o.held → a < u.layout.harts → (x : MayGiveUp others o q b r u a l)
+    → IsRight u a l (GiveUp a x.walks) × Rests others (given_up o) q b r u a (did (GiveUp a x.walks) ∷ l)
 
 -- the hart is in its section where the access was told so
 abbrev pub IsTold : (section : Bool) → Shown → Type 0

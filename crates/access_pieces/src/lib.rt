@@ -3,4 +3,6 @@
 
 mod laws;
 
-pub use laws::{law_loads, law_operations, law_reservations, law_stores, law_translations};
+pub use laws::{
+    law_give_ups, law_loads, law_operations, law_reservations, law_stores, law_translations,
+};

@@ -175,6 +175,7 @@ fn a_crossing_store_needs_the_section(rt: HostRuntime) -> Result<(), Fail> {
     };
     let (played, words) = play_scene(rt.alloc(), LAYOUT, &scene)?;
     assert_eq!(rt; played.first, 4);
+    assert_eq!(rt; first_stored(&words, LAYOUT), Some(0x4000));
     assert_eq!(rt; words.get(ram_word(0x8002_0000)), 0x5566_7788_0000_0000);
     assert_eq!(rt; words.get(ram_word(0x8002_0008)), 0x1122_3344);
     assert_eq!(rt; words.get(ram_word(0x8002_0ff8)), 0xbbcc_dd00_0000_0000);

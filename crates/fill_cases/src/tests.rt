@@ -1,9 +1,10 @@
 // Fills, hits, marks and flushes over the page tables of a machine.
-use crate::{Deed, Row, rows_right};
+use crate::{Deed, Row, rows_right, rows_right_beside};
 use rv64_priv::{Kind, Regime};
 use std::test::Fail;
 use step_laws::Layout;
 use tlb_fill::Translated;
+use tlb_lock::Busy;
 
 const LAYOUT: Layout = Layout {
     harts: 1,
@@ -49,15 +50,22 @@ fn fault(cause: u64, tval: u64) -> Translated {
 
 fn flush(page: u32, count: u16, used: u16) -> Row {
     Row {
-        deed: Deed::FlushPages { page, count },
+        deed: Deed::FlushPages {
+            page,
+            count,
+            held: false,
+        },
         used,
     }
 }
 
 const FLUSH_ALL: Row = Row {
-    deed: Deed::FlushAll,
+    deed: Deed::FlushAll { held: false },
     used: 0,
 };
+
+// LOCK as the monitor, the ninth actor, leaves it
+const BUSY: Translated = Translated::Busy(Busy { holder: 9 });
 
 #[test]
 fn fills_hits_and_flushes(rt: HostRuntime) -> Result<(), Fail> {
@@ -192,5 +200,43 @@ fn fills_hits_and_flushes(rt: HostRuntime) -> Result<(), Fail> {
         to(BARE, 0x7fff_fff8, Kind::Load, fault(5, 0x7fff_fff8), 1),
     ];
     assert_eq!(&rt; rows_right(rt.alloc(), LAYOUT, &rows)?, rows.len());
+    Ok(())
+}
+
+#[test]
+fn changes_nothing_where_the_monitor_holds_the_lock(rt: HostRuntime) -> Result<(), Fail> {
+    let hit = to(
+        SUPERVISOR,
+        0x1234,
+        Kind::Load,
+        Translated::Ram(0x8002_0234),
+        1,
+    );
+    let held = [
+        // a hit takes no lock, a store's first one does; a miss does where the walk finds a leaf
+        hit,
+        to(SUPERVISOR, 0x1238, Kind::Store, BUSY, 1),
+        to(SUPERVISOR, 0x6000, Kind::Load, BUSY, 1),
+        to(SUPERVISOR, 0x2000, Kind::Load, fault(13, 0x2000), 1),
+        Row {
+            deed: Deed::FlushPages {
+                page: 1,
+                count: 1,
+                held: true,
+            },
+            used: 1,
+        },
+        Row {
+            deed: Deed::FlushAll { held: true },
+            used: 1,
+        },
+        // the entry is there still, for loads alone
+        hit,
+        to(SUPERVISOR, 0x1238, Kind::Store, BUSY, 1),
+    ];
+    assert_eq!(&rt;
+        rows_right_beside(rt.alloc(), LAYOUT, &[hit], &held)?,
+        (1, held.len())
+    );
     Ok(())
 }

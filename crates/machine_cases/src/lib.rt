@@ -1,9 +1,7 @@
-//! Tests of the reference machine itself: turns, traps, page tables, atomics and SBI calls. Expected values come from the RISC-V ISA
-//! manual and the SBI.
+//! Tests of the reference machine itself: turns, traps, page tables and SBI calls. Expected values come from the RISC-V ISA manual and
+//! the SBI.
 #![tactic(auto)]
 
-#[cfg(test)]
-mod atomics;
 #[cfg(test)]
 mod machine;
 #[cfg(test)]

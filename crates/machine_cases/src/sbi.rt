@@ -19,7 +19,7 @@ use step_laws::Layout;
 const PAGES: u32 = 1024;
 
 /// A limit that no test comes to.
-pub(crate) const FAR: u64 = 50_000_000;
+const FAR: u64 = 50_000_000;
 
 const ALL: u64 = 0xffff_ffff_ffff_ffff;
 
@@ -219,7 +219,7 @@ fn lists_of(alloc: Global, harts: u8, steps: &[Step]) -> Result<Vec<u32>, AllocE
 }
 
 /// A machine of so many harts with these words in RAM, which begins at RAM's first byte.
-pub(crate) fn machine_with(
+fn machine_with(
     alloc: Global,
     harts: u8,
     limit: u64,
@@ -253,7 +253,7 @@ fn caller(alloc: Global, harts: u8, limit: u64, steps: &[Step]) -> Result<PlainM
 }
 
 /// Takes so many turns of a hart, and answers what the last of them does.
-pub(crate) fn turn_times(machine: &mut PlainMachine, hart: u8, turns: u64) -> Option<Reason>
+fn turn_times(machine: &mut PlainMachine, hart: u8, turns: u64) -> Option<Reason>
     requires { hart < machine.old.shared.layout.harts }
     ensures { machine.new.shared.layout.harts ≡ machine.old.shared.layout.harts }
 {

@@ -1,4 +1,3 @@
-pub mod Loading
 pub mod Reaches
 pub mod Fresh
 pub mod Quick

@@ -3,7 +3,7 @@ use Rattle.std.proofs.Common.{◌≡◌, ℕ, ◌⊎◌, inl, inr, ◌∷◌, sy
 use Rattle.std.proofs.lemmas.Bool.{cases_lt}
 use Rattle.std.proofs.lemmas.List.{length-set}
 use Rattle.elf_load.specs.Contents.{contents_word}
-use Rattle.ref_machine.proofs.Loading.{word_before, word_behind}
+use Rattle.image_words.proofs.Reached.{word_before, word_behind}
 use Rattle.ref_machine.proofs.loader.put.Goals as goal
 
 pub loop-i-init : goal.loop-i-init

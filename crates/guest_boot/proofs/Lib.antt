@@ -1,0 +1,4 @@
+pub mod Storing
+pub mod Valued
+pub mod Beyond
+pub mod Begun

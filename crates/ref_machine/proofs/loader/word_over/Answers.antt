@@ -1,9 +1,0 @@
--- A whole word of the file.
-use Rattle.std.proofs.Common.{◌∙◌}
-use Rattle.ref_machine.proofs.Loading.{word_of_file}
-use Rattle.ref_machine.proofs.loader.word_over.Goals as goal
-
-pub returns-in-Some : goal.returns-in-Some
-returns-in-Some c =
-    let at = c.in-Some.ensures.some in
-    c.file_word.ensures ∙ word_of_file c.args.file.now c.args.part.now c.args.rest.now c.args.pa c.in-Some.at at.0 at.1 at.2

@@ -1,0 +1,5 @@
+pub mod Placing
+pub mod Kept
+pub mod Behind
+pub mod Owing
+pub mod Hits
