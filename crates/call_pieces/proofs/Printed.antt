@@ -43,7 +43,8 @@ use Rattle.turn_pieces.proofs.Calls.{call_begins}
 use Rattle.turn_pieces.proofs.Offers.{draw_in_call, free, print_all}
 use Rattle.turn_pieces.proofs.Sections.{Plain, plain_section}
 use Rattle.turn_pieces.proofs.Writers.{grows_then, owed_named, tells_did}
-use Rattle.access_pieces.specs.Serving.{Rests, Tells, Wants, view}
+use Rattle.access_pieces.specs.Serving.{Tells, Wants, view}
+use Rattle.call_pieces.specs.Idle.{Idles}
 use Rattle.hart_calls.specs.declared.asking.Asked.{Asked}
 use Rattle.hart_calls.specs.declared.outcomes.SbiEnd.{SbiEnd}
 use Rattle.hart_calls.specs.Asked.{IsAsked}
@@ -75,7 +76,7 @@ ram_shared : (pa : ℕ) → IsShared (name_of (ram_word pa))
 ram_shared pa = subst IsShared (sym (named_ram ((pa - 2 ^ 31) / 8))) tt
 
 module _ (p q : Shown) (b : Book) (c : Arch) (from count first : ℕ) (runner : IsRunner p) (may : may_draw p.own.steps ≡ true) (is : IsAsked (layout_of p) c (Asked.Prints from count)) (inside : IsInSection (layout_of p) p.own.actor p.own.steps)
-    (some : count ≢ 0) (o : Own) (wants : Wants o c Need.Sbi) (u : Setup) (a : ℕ) (l : Log) (t : Rests o p b (regime c) u a l) where
+    (some : count ≢ 0) (o : Own) (wants : Wants o c Need.Sbi) (u : Setup) (a : ℕ) (l : Log) (t : Idles o p b (regime c) u a l) where
   layout_is : u.layout ≡ layout_of p
   layout_is = t.tells.tells.stands.layout
 
@@ -206,7 +207,7 @@ module _ (p q : Shown) (b : Book) (c : Arch) (from count first : ℕ) (runner : 
       cut_behind n i place ds many e beyond at = omega (arith, many, e, beyond, at)
 
 none_served : (p q : Shown) (b : Book) (c : Arch) (from count : ℕ) (end : SbiEnd) (done : HasWritten p q from count end true) → IsRunner p → may_draw p.own.steps ≡ true → IsAsked (layout_of p) c (Asked.Prints from count) → count ≡ 0
-    → (o : Own) → Wants o c Need.Sbi → Part (Rests o p b (regime c)) (Tells (own_executed (did_writing p q from count end true done) o) q b (regime c))
+    → (o : Own) → Wants o c Need.Sbi → Part (Idles o p b (regime c)) (Tells (own_executed (did_writing p q from count end true done) o) q b (regime c))
 none_served p q b c from count end done runner may is none o wants = calls_served p q b c true (Asked.Prints from count) end done runner may is none o wants
 
 pub bytes_served : BytesAreServed

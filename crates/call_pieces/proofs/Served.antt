@@ -29,7 +29,8 @@ use Rattle.turn_pieces.specs.Log.{made, did, Log, steps_of}
 use Rattle.turn_pieces.specs.Right.{MayBe}
 use Rattle.turn_pieces.specs.Grows.{Ends, stays}
 use Rattle.turn_pieces.specs.Shared.{IsShared, mode_named}
-use Rattle.access_pieces.specs.Serving.{Rests, Tells, Wants}
+use Rattle.access_pieces.specs.Serving.{Tells, Wants}
+use Rattle.call_pieces.specs.Idle.{Idles}
 use Rattle.hart_calls.specs.declared.asking.Asked.{Asked}
 use Rattle.hart_calls.specs.declared.outcomes.SbiEnd.{SbiEnd}
 use Rattle.hart_calls.specs.Asked.{IsAsked}
@@ -58,7 +59,7 @@ exchange_no_store : Exchange 1 ≢ Store
 exchange_no_store e = cc
 
 module _ (o : Own) (p q : Shown) (b : Book) (c : Arch) (section : Bool) (asked : Asked) (end : SbiEnd) (done : HasDone p q section asked end) (runner : IsRunner p) (is : IsAsked (layout_of p) c asked) (s : IsNoFence asked) (wants : Wants o c Need.Sbi)
-    (u : Setup) (a : ℕ) (l : Log) (t : Rests o p b (regime c) u a l) where
+    (u : Setup) (a : ℕ) (l : Log) (t : Idles o p b (regime c) u a l) where
   pub layout_is : u.layout ≡ layout_of p
   layout_is = t.tells.tells.stands.layout
 
@@ -93,10 +94,10 @@ module _ (o : Own) (p q : Shown) (b : Book) (c : Arch) (section : Bool) (asked :
 or_no_store : Or ≢ Store
 or_no_store e = cc
 
-draws_there : (o : Own) (p : Shown) (b : Book) (r : Regime) (u : Setup) (a : ℕ) (l : Log) → Rests o p b r u a l → may_draw p.own.steps ≡ true → may_draw (steps_of l) ≡ true
+draws_there : (o : Own) (p : Shown) (b : Book) (r : Regime) (u : Setup) (a : ℕ) (l : Log) → Idles o p b r u a l → may_draw p.own.steps ≡ true → may_draw (steps_of l) ≡ true
 draws_there o p b r u a l t may = subst (λ (x : List Step). may_draw x ≡ true) (sym t.tells.tells.stands.is) may
 
-one_drawn : (o : Own) (p x : Shown) (b : Book) (r : Regime) (u : Setup) (a : ℕ) (l : Log) → Rests o p b r u a l → (place : ℕ) (m : HasDrawn place p x) → places (made (step_of p.own.actor m.word Add 1 place) ∷ l) ≡ place ∷ []
+one_drawn : (o : Own) (p x : Shown) (b : Book) (r : Regime) (u : Setup) (a : ℕ) (l : Log) → Idles o p b r u a l → (place : ℕ) (m : HasDrawn place p x) → places (made (step_of p.own.actor m.word Add 1 place) ∷ l) ≡ place ∷ []
 one_drawn o p x b r u a l t place m = ap (λ w. drawn_next w Add place (places l)) m.name ∙ ap (λ ds. place ∷ ds) t.tells.tells.none_drawn
 
 some_room : (u : Setup) (a : ℕ) (l : Log) (place : ℕ) (w : Surroundings) → MayBe u a l w → places l ≡ place ∷ [] → place < console_places → 1 ≤ w.room

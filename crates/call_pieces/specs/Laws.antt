@@ -12,7 +12,8 @@ use Rattle.turn_pieces.specs.Draws.{may_draw}
 use Rattle.turn_pieces.specs.Grows.{Part}
 use Rattle.turn_pieces.specs.Log.{Log}
 use Rattle.turn_pieces.specs.Right.{MayBe}
-use Rattle.access_pieces.specs.Serving.{Rests, Tells, Wants}
+use Rattle.access_pieces.specs.Serving.{Tells, Wants}
+use Rattle.call_pieces.specs.Idle.{Idles}
 use Rattle.hart_calls.specs.declared.asking.Asked.{Asked}
 use Rattle.hart_calls.specs.declared.outcomes.SbiEnd.{SbiEnd}
 use Rattle.hart_calls.specs.Asked.{IsAsked}
@@ -32,7 +33,7 @@ IsServed p _ = Unit {0}
 abbrev pub CallsAreServed : Type 0
 CallsAreServed = (p q : Shown) (b : Book) (c : Arch) (section : Bool) (asked : Asked) (end : SbiEnd) (done : HasDone p q section asked end)
     → IsRunner p → may_draw p.own.steps ≡ true → IsAsked (layout_of p) c asked → IsServed p asked
-    → (o : Own) → Wants o c Need.Sbi → Part (Rests o p b (regime c)) (Tells (own_executed (did_call p q section asked end done) o) q b (regime c))
+    → (o : Own) → Wants o c Need.Sbi → Part (Idles o p b (regime c)) (Tells (own_executed (did_call p q section asked end done) o) q b (regime c))
 
 -- so is a start of the own hart, at logs that show that the reference machine has it as running
 abbrev pub HasOwnRunning : Setup → (a : ℕ) → Log → Type 0
@@ -41,4 +42,4 @@ HasOwnRunning u a l = (w : Surroundings) → MayBe u a l w → is_halted (w.mode
 abbrev pub OwnStartsAreServed : Type 0
 OwnStartsAreServed = (p q : Shown) (b : Book) (c : Arch) (section : Bool) (target at opaque : ℕ) (end : SbiEnd) (done : HasTried p q target at opaque end)
     → IsRunner p → IsAsked (layout_of p) c (Asked.Starts target at opaque) → target ≡ p.own.actor
-    → (o : Own) → Wants o c Need.Sbi → Part (λ u a l. Rests o p b (regime c) u a l × HasOwnRunning u a l) (Tells (own_executed (did_call p q section (Asked.Starts target at opaque) end done) o) q b (regime c))
+    → (o : Own) → Wants o c Need.Sbi → Part (λ u a l. Idles o p b (regime c) u a l × HasOwnRunning u a l) (Tells (own_executed (did_call p q section (Asked.Starts target at opaque) end done) o) q b (regime c))
