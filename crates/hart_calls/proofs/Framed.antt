@@ -14,31 +14,31 @@ use Rattle.guest_ram.proofs.Moves.{acting_goes, fold_goes, stands_goes}
 use Rattle.hart_calls.specs.declared.asking.Asked.{Asked}
 use Rattle.hart_calls.specs.declared.outcomes.SbiEnd.{SbiEnd}
 use Rattle.hart_calls.specs.Asked.{CanDo, IsGuestReason, IsSound}
-use Rattle.hart_calls.specs.Called.{HasDone, HasLeft, HasNamed, HasTried, HasWritten, HasWrittenByte, IsOfCalls, all_put, fills, found_full, is_own, needs_section, no_byte, none_named, put, refused, some_named, started, stopped, stopped_last}
+use Rattle.hart_calls.specs.Called.{HasDone, HasLeft, HasNamed, HasTried, HasWritten, HasWrittenByte, IsOfHartCalls, all_put, fills, found_full, is_own, needs_section, no_byte, none_named, put, refused, some_named, started, stopped, stopped_last}
 use Rattle.hart_calls.specs.Ends.{IfFence, succeeds}
 
-calls_aside : (w : Word) → IsOfCalls w → IsAside w
+calls_aside : (w : Word) → IsOfHartCalls w → IsAside w
 calls_aside Pend x = absurd x
 calls_aside (Run a) x = absurd x
 calls_aside w x = tt
 
-lock_aside : (w : Word) (op : WordOp) (arg answer h : ℕ) → IsOfCalls w → held_lock_next w op arg answer h ≡ h
+lock_aside : (w : Word) (op : WordOp) (arg answer h : ℕ) → IsOfHartCalls w → held_lock_next w op arg answer h ≡ h
 lock_aside (Lock a) op arg answer h x = absurd x
 lock_aside w op arg answer h x = refl
 
-end_aside : (w : Word) (op : WordOp) (arg answer : ℕ) (b : Bool) → IsOfCalls w → is_finished_next w op arg answer b ≡ b
+end_aside : (w : Word) (op : WordOp) (arg answer : ℕ) (b : Bool) → IsOfHartCalls w → is_finished_next w op arg answer b ≡ b
 end_aside (Done a) op arg answer b x = absurd x
 end_aside w op arg answer b x = refl
 
-module _ (n : ℕ) (p q : Shown) (goes : GoesBy n IsOfCalls p q) where
+module _ (n : ℕ) (p q : Shown) (goes : GoesBy n IsOfHartCalls p q) where
   pub stands_as : StandsAs p q
-  stands_as = stands_goes n IsOfCalls p q calls_aside goes
+  stands_as = stands_goes n IsOfHartCalls p q calls_aside goes
 
   pub held : held_lock q.own.steps ≡ held_lock p.own.steps
-  held = fold_goes held_lock_next 0 n IsOfCalls p q lock_aside goes
+  held = fold_goes held_lock_next 0 n IsOfHartCalls p q lock_aside goes
 
   pub acting : IsActing p → IsActing q
-  acting a = acting_goes n IsOfCalls p q goes (subst (λ b. is_finished q.own.steps ≡ b) a.going (fold_goes is_finished_next false n IsOfCalls p q end_aside goes)) a
+  acting a = acting_goes n IsOfHartCalls p q goes (subst (λ b. is_finished q.own.steps ≡ b) a.going (fold_goes is_finished_next false n IsOfHartCalls p q end_aside goes)) a
 
 pub sound_can : (l : Layout) (a : Arch) (asked : Asked) → IsSound l a asked → CanDo l asked
 sound_can l a (Asked.Fences harts span) s = tt

@@ -81,7 +81,7 @@ apart from i j above begins less = λ same. go (cases_Bool ((from + i) % 8 == 0)
     go (inr e) same = let none : begins_word from i ≡ false = (λ k. zero_not k || e k) in absurd (cc)
 
 -- any other is in the word of the byte before it
-beside : (from i : ℕ) → 2 ^ 31 ≤ from → begins_word from i ≡ false → (i ≢ 0) × (ram_word (from + i) ≡ ram_word (from + (i - 1)))
+pub beside : (from i : ℕ) → 2 ^ 31 ≤ from → begins_word from i ≡ false → (i ≢ 0) × (ram_word (from + i) ≡ ram_word (from + (i - 1)))
 beside from i above begins = go (cases_Bool (i == 0)) (cases_Bool ((from + i) % 8 == 0))
   where
     go : ((i == 0) ≡ true) ⊎ ((i == 0) ≡ false) → (((from + i) % 8 == 0) ≡ true) ⊎ (((from + i) % 8 == 0) ≡ false) → (i ≢ 0) × (ram_word (from + i) ≡ ram_word (from + (i - 1)))

@@ -18,17 +18,17 @@ use Rattle.hart_calls.specs.States.{HasStarted, HasFoundState, HasLoadedState, H
 use Rattle.hart_calls.specs.Printing.{HasCopied, HasRunOut}
 
 -- what calls touch: hart states, pending interrupts, the console, RAM, and STOP
-abbrev pub IsOfCalls : Word → Type 0
-IsOfCalls Stop = Unit {0}
-IsOfCalls Live = Unit {0}
-IsOfCalls Cons = Unit {0}
-IsOfCalls Ipi = Unit {0}
-IsOfCalls (Hsm h) = Unit {0}
-IsOfCalls (Start h) = Unit {0}
-IsOfCalls (Opaque h) = Unit {0}
-IsOfCalls (Console i) = Unit {0}
-IsOfCalls (Ram i) = Unit {0}
-IsOfCalls _ = ⊥
+abbrev pub IsOfHartCalls : Word → Type 0
+IsOfHartCalls Stop = Unit {0}
+IsOfHartCalls Live = Unit {0}
+IsOfHartCalls Cons = Unit {0}
+IsOfHartCalls Ipi = Unit {0}
+IsOfHartCalls (Hsm h) = Unit {0}
+IsOfHartCalls (Start h) = Unit {0}
+IsOfHartCalls (Opaque h) = Unit {0}
+IsOfHartCalls (Console i) = Unit {0}
+IsOfHartCalls (Ram i) = Unit {0}
+IsOfHartCalls _ = ⊥
 
 module _ (p q : Shown) where
   -- STOP was exchanged from 0 for this reason

@@ -5,7 +5,7 @@ ghost use Rattle.step_laws.specs.Sections.{MayTouch};
 ghost use Rattle.step_laws.specs.Tables.{held_lock};
 ghost use Rattle.guest_ram.specs.Ports.{layout_of, GoesBy, IsActing, StandsAs};
 ghost use Rattle.hart_calls.specs.Asked.{CanDo};
-ghost use Rattle.hart_calls.specs.Called.{HasCalled, HasDone, IsOfCalls};
+ghost use Rattle.hart_calls.specs.Called.{HasCalled, HasDone, IsOfHartCalls};
 ghost use Rattle.hart_calls.specs.Ends.{IfFence, runs_on};
 ghost use Rattle.hart_calls.specs.States.{IsRunner};
 
@@ -68,7 +68,7 @@ pub fn sbi<P: Port>(port: &mut P, hart: u8, arch: &Arch, section: bool) -> SbiEn
     ensures stands { StandsAs (P.shows port.old) (P.shows port.new) }
     ensures held { held_lock (P.shows port.new).own.steps ≡ held_lock (P.shows port.old).own.steps }
     ensures acting { IsActing (P.shows port.new) }
-    ensures goes { GoesBy 769 IsOfCalls (P.shows port.old) (P.shows port.new) }
+    ensures goes { GoesBy 769 IsOfHartCalls (P.shows port.old) (P.shows port.new) }
 {
     perform(port, hart, asked_of(port.layout(), arch), section)
 }

@@ -1,0 +1,6 @@
+pub mod Placing
+pub mod Served
+pub mod Ending
+pub mod Moving
+pub mod Copying
+pub mod Printed

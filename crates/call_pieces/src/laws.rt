@@ -1,0 +1,14 @@
+// The laws of calls in logs.
+ghost use Rattle.call_pieces.specs.Laws.{CallsAreServed, OwnStartsAreServed};
+ghost use Rattle.call_pieces.specs.Printing.{BytesAreServed};
+
+/// Each log that tells of the port before a call goes on by its steps, and its execution, to one that tells of the port behind.
+pub fn law_served()
+    ensures calls { CallsAreServed }
+    ensures own_starts { OwnStartsAreServed }
+{}
+
+/// So it does for a call that prints bytes of RAM in its section, where the places that it drew follow one another.
+pub fn law_printed()
+    ensures { BytesAreServed }
+{}
