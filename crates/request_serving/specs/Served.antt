@@ -4,12 +4,14 @@ use Rattle.rv64_priv.specs.declared.state.Regime.{Regime}
 use Rattle.step_laws.specs.declared.request.Request.{Request}
 use Rattle.step_laws.specs.declared.request.Request.TheVariants.{FlushAll, FlushPages, Drain}
 use Rattle.step_laws.specs.Words.{monitor}
-use Rattle.guest_ram.specs.Ports.{Shown, layout_of}
+use Rattle.guest_ram.specs.Ports.{Shown, GoesBy, layout_of}
+use Rattle.guest_ram.specs.Areas.{IsOfTable}
+use Rattle.kept_fills.specs.Beside.{IsBeside}
 use Rattle.walk_laws.specs.KeptWalks.{Item}
 use Rattle.tlb_entry.specs.declared.books.Book.{Book}
 use Rattle.tlb_lock.specs.declared.lock.Busy.{Busy as TheBusy}
 use Rattle.kept_fills.specs.Fills.{Fill, GoesWithFills}
-use Rattle.flush.specs.Flushed.{HasBeenBusy, HasFlushed, HasFlushedAll}
+use Rattle.flush.specs.Flushed.{HasBeenBusy, HasFlushed, HasFlushedAll, full_steps}
 use Rattle.work_queue.specs.declared.rings.Served.{Served}
 use Rattle.work_queue.specs.Acks.{HasAcked, HasFoundNone, HasFoundRequest}
 use Rattle.work_queue.specs.Rings.{next_ack, served_on}
@@ -26,10 +28,12 @@ HasFlushedFor FlushAll p q b b' = HasFlushedAll p q b b'
 HasFlushedFor (FlushPages page count) p q b b' = HasFlushed b.large p q b b' page count
 HasFlushedFor Drain p q b b' = (q ≡ p) × (b' ≡ b)
 
--- what a request that was loaded asks for was flushed, and then it was acked
+-- What a request that was loaded asks for was flushed, by permitted steps on the hart's table that left it beside that, and then it was acked
 pub record HasDone (request : Request) (source : ℕ) (served served' : Served) (p q : Shown) (b b' : Book) : Type 0 where
   pub flushed : Shown
   pub flushes : HasFlushedFor request p flushed b b'
+  pub goes : GoesBy (full_steps b.size + 386) IsOfTable p flushed
+  pub beside : IsBeside b' flushed
   pub acks : HasAcked source (next_ack served source) flushed q
   pub moved : served' ≡ served_on served source
 

@@ -30,6 +30,7 @@ use Rattle.turn_pieces.specs.Owed.{MayMake, books, owed}
 use Rattle.turn_pieces.specs.Requests.{HasFetched, HasFlushed, flush_of}
 use Rattle.turn_pieces.specs.Writers.{quietly}
 use Rattle.turn_pieces.proofs.Writers.{grows_then, may_clear, may_named, not_due_behind}
+use Rattle.flush.specs.Flushed.{full_steps}
 use Rattle.table_pieces.specs.Flushing.{IsPlaced, flush_made}
 use Rattle.table_pieces.proofs.Placing.{full_is_placed, pages_are_placed}
 use Rattle.request_serving.specs.Served.{HasFlushedFor}
@@ -104,8 +105,9 @@ module _ (others : ℕ → Bool) (o : Own) (p q : Shown) (b b' : Book) (r : Regi
   }
 
 pub requests_are_served : RequestsAreServed
-requests_are_served source s s' p q b b' r can x by others o u a l rest =
+requests_are_served source s s' p q b b' r can x others o u a l rest =
     let place = next_ack s source in
+    let most = full_steps b.size + 386 in
     let own = p.own.actor in
     let find = x.finds.finds in
     let word = x.finds.word in
@@ -113,7 +115,7 @@ requests_are_served source s s' p q b b' r can x by others o u a l rest =
     let m = made load ∷ l in
     let is_own : own ≡ a = sym rest.rests.tells.tells.stands.actor in
     let fetched : HasFetched (Place a source place) word m = inl (find.name ∙ ap (λ n. Place n source place) is_own, refl, refl) in
-    let f = flushed_in others o x.loaded x.done.flushed b b' r u a m x.request by.most (beside_place b p x.loaded own source place Load 0 word find can) x.done.flushes by.goes
+    let f = flushed_in others o x.loaded x.done.flushed b b' r u a m x.request most (beside_place b p x.loaded own source place Load 0 word find can) x.done.flushes x.done.goes
     (load_rests p x.loaded own source place word find others o b r u a l rest) in
     let late = with_flush x.request b.large a (quietly f.added m) in
     let t = f.rests.rests.tells.tells in
@@ -121,7 +123,7 @@ requests_are_served source s s' p q b b' r can x by others o u a l rest =
     let acked = x.done.flushed.own.actor in
     let ack = step_made x.done.flushed q (Place acked source place) Store 0 0 acks in
     let last : last_load (Place a source place) (steps_of late) ≡ Some word = ap (λ (y : List Step). last_load (Place a source place) y) t.stands.is
-    ∙ ap (λ n. last_load (Place n source place) x.done.flushed.own.steps) (sym is_own) ∙ still_loaded by.most p x.loaded x.done.flushed own source place word find by.goes in
+    ∙ ap (λ n. last_load (Place n source place) x.done.flushed.own.steps) (sym is_own) ∙ still_loaded most p x.loaded x.done.flushed own source place word find x.done.goes in
     let may : MayMake u a late ack = may_named u a late ack (Place a source place) Store (acks.name ∙ ap (λ n. Place n source place) (sym t.stands.actor)) refl
     (may_clear u a (books late) (owed late) (Place a source place) Store acks.word 0 0 t.clear tt)
     (λ same n loads flushes. let is : word ≡ n = some_is (sym last ∙ loads) in

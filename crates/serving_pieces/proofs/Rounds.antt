@@ -19,7 +19,7 @@ use Rattle.turn_pieces.specs.Writers.{quietly}
 use Rattle.turn_pieces.proofs.Writers.{grows_then}
 use Rattle.request_serving.specs.Served.{HasGone, HasMoved, idle, more, nobody, none, one}
 use Rattle.serving_pieces.specs.Laws.{RoundsRest, StopsRest}
-use Rattle.serving_pieces.specs.Serving.{AreMadeInTable, EndsWith, IsAtRest, IsMadeIfServed, flush_of_turn, flushes_of_round, with_flush}
+use Rattle.serving_pieces.specs.Serving.{EndsWith, IsAtRest, flush_of_turn, flushes_of_round, with_flush}
 use Rattle.serving_pieces.proofs.Answering.{beside_place, requests_are_served}
 use Rattle.serving_pieces.proofs.Stepping.{held_rests, idle_rests}
 
@@ -38,17 +38,17 @@ record Passes (added : ℕ → List Event) (p q : Shown) (b c : Book) : Type 0 w
   beside : IsBeside c q
   ends : (r : Regime) (others : ℕ → Bool) (o : Own) (u : Setup) (a : ℕ) (l : Log) → IsAtRest others o p b r u a l → EndsWith (added a) others o q c r u a l
 
-moves : (n : ℕ) (s : Served) (p : Shown) (b : Book) (any : Bool) (t : Served) (q : Shown) (c : Book) (now : Bool) → IsBeside b p → (x : HasMoved n s p b any t q c now) → IsMadeIfServed x
+moves : (n : ℕ) (s : Served) (p : Shown) (b : Book) (any : Bool) (t : Served) (q : Shown) (c : Book) (now : Bool) → IsBeside b p → (x : HasMoved n s p b any t q c now)
     → Passes (λ a. flush_of_turn x a) p q b c
-moves n s p b any t q c now can (nobody absent) k = record { beside = can; ends = λ r others o u a l rest. record { late = l; grows = stays; events_are = refl; rests = rest } }
-moves n s p b any t q c now can (idle m) k = record {
+moves n s p b any t q c now can (nobody absent) = record { beside = can; ends = λ r others o u a l rest. record { late = l; grows = stays; events_are = refl; rests = rest } }
+moves n s p b any t q c now can (idle m) = record {
   beside = beside_place b p q p.own.actor n (next_ack s n) Load 0 0 m can;
   ends = λ r others o u a l rest. let y = idle_rests n (next_ack s n) p q b r m others o u a l rest in record { late = quietly y.added l; grows = y.grows; events_are = quiet_events y.added l; rests = y.rests };
 }
-moves n s p b any t q c now can (one x) k = record {
-  beside = beside_place c x.done.flushed q x.done.flushed.own.actor n (next_ack s n) Store 0 0 x.done.acks k.beside;
+moves n s p b any t q c now can (one x) = record {
+  beside = beside_place c x.done.flushed q x.done.flushed.own.actor n (next_ack s n) Store 0 0 x.done.acks x.done.beside;
   ends = λ r others o u a l rest.
-      let y = requests_are_served n s t p q b c r can x k others o u a l rest in
+      let y = requests_are_served n s t p q b c r can x others o u a l rest in
       let m = quietly y.added (made y.load ∷ l) in record {
         late = made y.ack ∷ with_flush x.request b.large a m;
         grows = y.grows;
@@ -57,11 +57,11 @@ moves n s p b any t q c now can (one x) k = record {
       };
 }
 
-rounds : (s : Served) (p : Shown) (b : Book) (n : ℕ) (t : Served) (q : Shown) (c : Book) (any : Bool) → IsBeside b p → (x : HasGone s p b n t q c any) → AreMadeInTable x → Passes (λ a. flushes_of_round x a) p q b c
-rounds s p b n t q c any can none k = record { beside = can; ends = λ r others o u a l rest. record { late = l; grows = stays; events_are = refl; rests = rest } }
-rounds s p b n t q c any can (more {n = n'} {t = t'} {q = q'} {c = c'} {any = any'} before now) k =
-    let y = rounds s p b n' t' q' c' any' can before k.0 in
-    let z = moves n' t' q' c' any' t q c any y.beside now k.1 in record {
+rounds : (s : Served) (p : Shown) (b : Book) (n : ℕ) (t : Served) (q : Shown) (c : Book) (any : Bool) → IsBeside b p → (x : HasGone s p b n t q c any) → Passes (λ a. flushes_of_round x a) p q b c
+rounds s p b n t q c any can none = record { beside = can; ends = λ r others o u a l rest. record { late = l; grows = stays; events_are = refl; rests = rest } }
+rounds s p b n t q c any can (more {n = n'} {t = t'} {q = q'} {c = c'} {any = any'} before now) =
+    let y = rounds s p b n' t' q' c' any' can before in
+    let z = moves n' t' q' c' any' t q c any y.beside now in record {
       beside = z.beside;
       ends = λ r others o u a l rest.
           let e = y.ends r others o u a l rest in
@@ -74,11 +74,11 @@ rounds s p b n t q c any can (more {n = n'} {t = t'} {q = q'} {c = c'} {any = an
     }
 
 pub rounds_rest : RoundsRest
-rounds_rest n s t p q b c any r can x k others o u a l rest = (rounds s p b n t q c any can x k).ends r others o u a l rest
+rounds_rest n s t p q b c any r can x others o u a l rest = (rounds s p b n t q c any can x).ends r others o u a l rest
 
 pub stops_rest : StopsRest
-stops_rest s t holder p q b c r can x k others o u a l rest =
-    let e = (rounds s p b x.source t x.before x.book x.any can x.gone k).ends r others o u a l rest in
+stops_rest s t holder p q b c r can x others o u a l rest =
+    let e = (rounds s p b x.source t x.before x.book x.any can x.gone).ends r others o u a l rest in
     let f = held_rests x.source (next_ack t x.source) holder x.before q x.book c r x.held others o u a e.late e.rests in record {
       late = quietly f.added e.late;
       grows = grows_then u a l e.late e.grows f.grows;

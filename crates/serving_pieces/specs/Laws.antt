@@ -10,11 +10,11 @@ use Rattle.work_queue.specs.declared.rings.Served.{Served}
 use Rattle.work_queue.specs.Acks.{HasFoundNone}
 use Rattle.turn_pieces.specs.Log.{Log}
 use Rattle.request_serving.specs.Served.{HasFoundHeld, HasGone, HasServed, HasStopped}
-use Rattle.serving_pieces.specs.Serving.{AreMadeInTable, EndsWith, IsAtRest, IsMadeInTable, IsPassedIn, IsServedIn, flushes_of_round}
+use Rattle.serving_pieces.specs.Serving.{EndsWith, IsAtRest, IsPassedIn, IsServedIn, flushes_of_round}
 
 -- a served request is in each log that told of the port before
 abbrev pub RequestsAreServed : Type 0
-RequestsAreServed = (source : ℕ) (s s' : Served) (p q : Shown) (b b' : Book) (r : Regime) → IsBeside b p → (x : HasServed source s s' p q b b') → IsMadeInTable x
+RequestsAreServed = (source : ℕ) (s s' : Served) (p q : Shown) (b b' : Book) (r : Regime) → IsBeside b p → (x : HasServed source s s' p q b b')
     → (others : ℕ → Bool) (o : Own) (u : Setup) (a : ℕ) (l : Log) → IsAtRest others o p b r u a l → IsServedIn others o p q b b' r x.request u a l
 
 -- a load that found no request is in it too, and nothing more
@@ -29,10 +29,10 @@ HeldRests = (source place holder : ℕ) (p q : Shown) (b b' : Book) (r : Regime)
 
 -- a round of the sources below a number, with the flushes of those that were served
 abbrev pub RoundsRest : Type 0
-RoundsRest = (n : ℕ) (s t : Served) (p q : Shown) (b c : Book) (any : Bool) (r : Regime) → IsBeside b p → (x : HasGone s p b n t q c any) → AreMadeInTable x
+RoundsRest = (n : ℕ) (s t : Served) (p q : Shown) (b c : Book) (any : Bool) (r : Regime) → IsBeside b p → (x : HasGone s p b n t q c any)
     → (others : ℕ → Bool) (o : Own) (u : Setup) (a : ℕ) (l : Log) → IsAtRest others o p b r u a l → EndsWith (flushes_of_round x a) others o q c r u a l
 
 -- and one that stopped at a held lock
 abbrev pub StopsRest : Type 0
-StopsRest = (s t : Served) (holder : ℕ) (p q : Shown) (b c : Book) (r : Regime) → IsBeside b p → (x : HasStopped s t holder p q b c) → AreMadeInTable x.gone
+StopsRest = (s t : Served) (holder : ℕ) (p q : Shown) (b c : Book) (r : Regime) → IsBeside b p → (x : HasStopped s t holder p q b c)
     → (others : ℕ → Bool) (o : Own) (u : Setup) (a : ℕ) (l : Log) → IsAtRest others o p b r u a l → EndsWith (flushes_of_round x.gone a) others o q c r u a l

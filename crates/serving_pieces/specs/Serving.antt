@@ -9,40 +9,21 @@ use Rattle.step_laws.specs.Discipline.{IsUnlock}
 use Rattle.machine_model.specs.Event.{Event, Flushes}
 use Rattle.machine_model.specs.Own.{Own}
 use Rattle.machine_model.specs.State.{Setup}
-use Rattle.guest_ram.specs.Areas.{IsOfTable}
-use Rattle.guest_ram.specs.Ports.{Shown, GoesBy}
+use Rattle.guest_ram.specs.Ports.{Shown}
 use Rattle.tlb_entry.specs.declared.books.Book.{Book}
-use Rattle.kept_fills.specs.Beside.{IsBeside}
 use Rattle.work_queue.specs.declared.rings.Served.{Served}
 use Rattle.turn_pieces.specs.Grows.{Grows}
 use Rattle.turn_pieces.specs.Log.{AtLast, Log, did, events_of, made}
 use Rattle.turn_pieces.specs.Writers.{quietly}
 use Rattle.access_pieces.specs.Serving.{Rests}
 use Rattle.table_pieces.specs.Flushing.{IsNotDue, flush_made}
-use Rattle.request_serving.specs.Served.{HasGone, HasMoved, HasServed, idle, more, nobody, none, one}
+use Rattle.request_serving.specs.Served.{HasGone, HasMoved, idle, more, nobody, none, one}
 
 -- the log with the flush that the request asks for; a drain asks for none
 abbrev pub with_flush : Request → (large : Bool) → (a : ℕ) → Log → Log
 with_flush FlushAll large a l = did (Flushes a Full) ∷ l
 with_flush (FlushPages page count) large a l = did (Flushes a (flush_made large page count)) ∷ l
 with_flush Drain large a l = l
-
--- The flush of a served request was made by so many permitted steps on the hart's table, behind the load, and left the hart beside it
-pub record IsMadeInTable {source : ℕ} {s s' : Served} {p q : Shown} {b b' : Book} (x : HasServed source s s' p q b b') : Type 0 where
-  pub most : ℕ
-  pub goes : GoesBy most IsOfTable x.loaded x.done.flushed
-  pub beside : IsBeside b' x.done.flushed
-
--- the flush of a source's turn was, if it had one
-abbrev pub IsMadeIfServed : {source : ℕ} {s : Served} {p : Shown} {b : Book} {any : Bool} {s' : Served} {q : Shown} {b' : Book} {now : Bool} → HasMoved source s p b any s' q b' now → Type 0
-IsMadeIfServed (nobody absent) = Unit {0}
-IsMadeIfServed (idle found) = Unit {0}
-IsMadeIfServed (one x) = IsMadeInTable x
-
--- each flush of a round was
-abbrev pub AreMadeInTable : {s : Served} {p : Shown} {b : Book} {n : ℕ} {t : Served} {q : Shown} {c : Book} {any : Bool} → HasGone s p b n t q c any → Type 0
-AreMadeInTable none = Unit {0}
-AreMadeInTable (more before now) = AreMadeInTable before × IsMadeIfServed now
 
 -- the log tells of the port and rests, and its hart isn't to stop at its limit
 pub record IsAtRest (others : ℕ → Bool) (o : Own) (p : Shown) (b : Book) (r : Regime) (u : Setup) (a : ℕ) (l : Log) : Type 0 where
