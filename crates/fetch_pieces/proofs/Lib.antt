@@ -1,0 +1,2 @@
+mod Regimes
+mod Fetching

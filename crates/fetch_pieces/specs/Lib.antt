@@ -1,0 +1,3 @@
+pub mod Regimes
+pub mod Fetching
+pub mod Laws
