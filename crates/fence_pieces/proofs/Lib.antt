@@ -1,0 +1,4 @@
+mod Behind
+mod Asking
+mod Quiet
+mod Owning

@@ -1,0 +1,4 @@
+pub mod Behind
+pub mod Asking
+pub mod Owning
+pub mod Laws

@@ -1,0 +1,32 @@
+// Laws of fences: each function's contract is its law.
+ghost use Rattle.fence_pieces.specs.Laws.{AsksRest, BehindStays, FencesAreAsked, FencesStand, FlushesStay, GrownIsBehind, PiecesAreFlushed, PiecesAreHeld, PiecesAreWhole};
+
+/// Where each piece of a fence was posted at a hart and answered since its base, and the log has no fetch of the actor since then, the hart was
+/// asked for all that the fence names. So the log has what the fence's execution asks for, once that is so of each other hart that it names, and the
+/// own pieces are flushed where it names the own hart.
+pub fn law_asked()
+    ensures one { FencesAreAsked }
+    ensures all { FencesStand }
+{}
+
+/// The own pieces of a fence, each made on the hart's own table and left beside it, are in each log that told of the port before: it goes on by
+/// their steps, with a flush where each frees the lock, and each of them is flushed since the hart's last fetch. Where all pieces are, all that the
+/// fence names is. Where the lock was found held behind some, one exchange stands behind their flushes.
+pub fn law_own()
+    ensures flushed { PiecesAreFlushed }
+    ensures held { PiecesAreHeld }
+    ensures whole { PiecesAreWhole }
+{}
+
+/// The posts and polls of a hart's own owe no event: each log that told of the port before goes on by them alone. None of them is an ack.
+pub fn law_asks()
+    ensures { AsksRest }
+{}
+
+/// A log that goes on with no fetch of the actor's stands behind what it was. What stands so behind such a log stands behind the first, and a flush
+/// since the actor's last fetch is still one.
+pub fn law_behind()
+    ensures grown { GrownIsBehind }
+    ensures stays { BehindStays }
+    ensures flushed { FlushesStay }
+{}

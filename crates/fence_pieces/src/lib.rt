@@ -1,0 +1,6 @@
+//! What a remote fence of `sbi_calls` is to the log of the hart that makes it: what it asked others for, and its own flushes.
+#![tactic(auto)]
+
+mod laws;
+
+pub use laws::{law_asked, law_asks, law_behind, law_own};
