@@ -1,1 +1,2 @@
 pub mod Standings
+mod Seats

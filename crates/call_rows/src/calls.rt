@@ -8,16 +8,9 @@ use exclusive::{all_out, claim, enter, leave, release};
 use guest_ram::Port;
 use hart_calls::{Reason, SbiEnd, sbi};
 use rv64_priv::Arch;
+use sbi_rows::Call;
 
-/// A call: what a7, a6 and a0 to a3 hold.
-#[derive(Clone, Copy, Debug)]
-pub struct Call {
-    pub extension: u64,
-    pub function: u64,
-    pub args: [u64; 4],
-}
-
-/// The registers of a hart that makes it. What a4 and a5 hold, no answer depends on.
+/// The registers of a hart that makes a call. What a4 and a5 hold, no answer depends on.
 fn registers_of(call: &Call) -> Arch {
     let [a0, a1, a2, a3] = call.args;
     let mut x = [0; 32];

@@ -4,10 +4,11 @@ ghost use Rattle.guest_ram_cases.specs.Tours.{IsSameSeat};
 ghost use Rattle.hart_calls.specs.Ends.{runs_on};
 ghost use Rattle.call_rows.specs.Standing.{IsStanding};
 
-use crate::calls::{Call, call_alone, call_inside, goes_on};
+use crate::calls::{call_alone, call_inside, goes_on};
 use guest_ram::Port;
 use guest_ram_cases::take_start;
 use hart_calls::SbiEnd;
+use sbi_rows::Call;
 
 /// A call, in the section or not; or a stopped hart's look whether it is to begin.
 #[derive(Clone, Copy, Debug)]
@@ -25,7 +26,7 @@ pub enum Came {
     Nothing,
 }
 
-/// Hart 1 does this, or hart 0, and this is to come of it.
+/// The second hart does this, or hart 0, and this is to come of it.
 #[derive(Clone, Copy, Debug)]
 pub struct Row {
     pub is_second: bool,

@@ -1,6 +1,5 @@
-// What each call comes to, by the RISC-V Supervisor Binary Interface Specification, "Base Extension" to "Debug Console Extension" and "Legacy
-// Extensions", on a machine of two harts with 1024 pages of RAM, of which hart 0 runs.
-ghost use Rattle.std.specs.Prelude.{◌≡◌, IfOk, length};
+// What each call comes to over passes of a table: the rows of `sbi_rows`, by which the machine on one thread is tried too. Hart 0 runs.
+ghost use Rattle.std.specs.Prelude.{◌≡◌, ◌≤◌, ◌<◌, IfOk, length};
 ghost use Rattle.step_laws.specs.Steps.{words_of};
 ghost use Rattle.guest_ram.specs.Shown.{all_words};
 
@@ -9,41 +8,14 @@ mod console;
 mod fences;
 mod harts;
 
-use crate::{Call, Came, Deed, Row, play_rows};
+use crate::{Came, Deed, Loaded, Row, play_alone, play_rows};
 use guest_ram::Words;
 use hart_calls::{Reason, SbiEnd, Span};
-use std::alloc::Global;
+use sbi_rows::{Call, Error, FIRST_WORD, Function, LAST_WORD, PAGES, TEXT, Want};
+use std::alloc::{AllocError, Global};
 use std::process::Abort;
 use std::test::Fail;
 use step_laws::Layout;
-
-/// The extensions.
-const PUTCHAR: u64 = 0x01;
-
-const SHUTDOWN: u64 = 0x08;
-
-const BASE: u64 = 0x10;
-
-const IPI: u64 = 0x73_5049;
-
-const RFENCE: u64 = 0x5246_4e43;
-
-const HSM: u64 = 0x48_534d;
-
-const SRST: u64 = 0x5352_5354;
-
-const DBCN: u64 = 0x4442_434e;
-
-const ALL: u64 = 0xffff_ffff_ffff_ffff;
-
-/// The errors of the specification that this machine answers.
-#[derive(Clone, Copy, Debug)]
-enum Error {
-    NotSupported,
-    InvalidParam,
-    InvalidAddress,
-    AlreadyAvailable,
-}
 
 fn number_of(error: Error) -> i64 {
     match error {
@@ -54,49 +26,43 @@ fn number_of(error: Error) -> i64 {
     }
 }
 
-/// What a call comes to. Those of the legacy extensions leave a1.
-#[derive(Clone, Copy, Debug)]
-enum Want {
-    Gives(u64),
-    Fails(Error),
-    LegacyGives,
-    LegacyFails(Error),
-    Fences(u64, Span),
-    Needs,
-    Stops,
-    Ends(Reason),
+fn failed(error: Error) -> SbiEnd {
+    SbiEnd::Pair {
+        error: number_of(error),
+        value: 0,
+    }
 }
 
+const SUCCESS: SbiEnd = SbiEnd::Pair { error: 0, value: 0 };
+
+/// What a call comes to over a pass. A limit is its turn's and not the call's, which just stops its hart.
 fn end_of(want: Want) -> SbiEnd {
     match want {
         Want::Gives(value) => SbiEnd::Pair { error: 0, value },
-        Want::Fails(error) => SbiEnd::Pair {
-            error: number_of(error),
-            value: 0,
+        Want::Fences(harts) => SbiEnd::Fence {
+            harts,
+            span: Span::All,
         },
+        Want::Fails(error) => failed(error),
         Want::LegacyGives => SbiEnd::Single(0),
         Want::LegacyFails(error) => SbiEnd::Single(number_of(error).cast_unsigned()),
-        Want::Fences(harts, span) => SbiEnd::Fence { harts, span },
-        Want::Needs => SbiEnd::NeedsSection,
-        Want::Stops => SbiEnd::HartStopped,
+        Want::Stops | Want::Ends(Reason::Limit(_)) => SbiEnd::HartStopped,
         Want::Ends(reason) => SbiEnd::Over(reason),
     }
 }
 
-fn call(extension: u64, function: u64, args: [u64; 4]) -> Call {
-    Call {
+/// A hart makes a call, in the section or not, that comes to this.
+fn row(is_second: bool, called: Function, args: [u64; 4], section: bool, end: SbiEnd) -> Row {
+    let (extension, function) = called;
+    let call = Call {
         extension,
         function,
         args,
-    }
-}
-
-/// A call of a hart, made in the section or not, and what it comes to.
-fn row(is_second: bool, call: Call, section: bool, want: Want) -> Row {
+    };
     Row {
         is_second,
         deed: Deed::Calls { call, section },
-        to: Came::End(end_of(want)),
+        to: Came::End(end),
     }
 }
 
@@ -109,20 +75,61 @@ fn begins(is_second: bool, to: Came) -> Row {
     }
 }
 
-/// The bytes `a` to `h` at 0x80000080.
-const TEXT: u64 = 0x6867_6665_6463_6261;
+/// What RAM holds where rows print from. The text stands from the word 0x4000 on.
+fn memory(alloc: Global) -> Result<Vec<Loaded>, AllocError> {
+    let mut words = Vec::new(alloc);
+    words.push(Loaded {
+        index: 0,
+        value: FIRST_WORD,
+    })?;
+    for (index, value) in (0x4000..).zip(TEXT) {
+        words.push(Loaded { index, value })?;
+    }
+    words.push(Loaded {
+        index: 512 * PAGES - 1,
+        value: LAST_WORD,
+    })?;
+    Ok(words)
+}
 
-const TEXT_PLACE: u64 = 0x8000_0080;
-
-/// All rows come out right. The words behind them.
-fn plays(rt: &impl Abort, alloc: Global, rows: &[Row]) -> Result<Words, Fail>
-    ensures { IfOk result (λ words. length (all_words words) ≡ words_of (record { harts = 2; pages = 1024 })) }
+/// All rows come out right, on a machine of so many harts, of which hart 0 and this one make them. The words behind them.
+fn plays_with(
+    rt: &impl Abort,
+    alloc: Global,
+    harts: u8,
+    second: u8,
+    rows: &[Row],
+) -> Result<Words, Fail>
+    requires most { harts ≤ 8 }
+    requires other { 1 ≤ second }
+    requires second { second < harts }
+    ensures { IfOk result (λ words. length (all_words words) ≡ words_of (record { harts = 8; pages = 1024 })) }
 {
     let layout = Layout {
-        harts: 2,
-        pages: 1024,
+        harts,
+        pages: PAGES,
     };
-    let (right, words) = play_rows(alloc, layout, TEXT, rows)?;
+    let words = memory(alloc)?;
+    let (right, words) = play_rows(alloc, layout, second, &words, rows)?;
+    assert_eq!(rt; right, rows.len());
+    Ok(words)
+}
+
+/// The same where hart 0 makes them all, and hart 1 where there is one.
+fn plays_on(rt: &impl Abort, alloc: Global, harts: u8, rows: &[Row]) -> Result<Words, Fail>
+    requires some { 1 ≤ harts }
+    requires most { harts ≤ 8 }
+    ensures { IfOk result (λ words. length (all_words words) ≡ words_of (record { harts = 8; pages = 1024 })) }
+{
+    if harts >= 2 {
+        return plays_with(rt, alloc, harts, 1, rows);
+    }
+    let layout = Layout {
+        harts,
+        pages: PAGES,
+    };
+    let words = memory(alloc)?;
+    let (right, words) = play_alone(alloc, layout, &words, rows)?;
     assert_eq!(rt; right, rows.len());
     Ok(words)
 }

@@ -11,100 +11,22 @@ mod interrupts;
 use case_guests::{RAM, Segment, elf_of};
 use elf_load::parse;
 use ref_machine::{PlainMachine, Reason};
+use sbi_rows::{Call, Error, FIRST_LIST, Function, HartRow, PAGES, Want};
 use std::alloc::{AllocError, Global};
 use std::process::Abort;
 use std::test::Fail;
 use step_laws::Layout;
 
-const PAGES: u32 = 1024;
-
 /// A limit that no test comes to.
 const FAR: u64 = 50_000_000;
 
-const ALL: u64 = 0xffff_ffff_ffff_ffff;
-
-/// The extensions.
-const PUTCHAR: u64 = 0x01;
-
-const SHUTDOWN: u64 = 0x08;
-
-const BASE: u64 = 0x10;
-
-const IPI: u64 = 0x73_5049;
-
-const RFENCE: u64 = 0x5246_4e43;
-
-const HSM: u64 = 0x48_534d;
-
-const SRST: u64 = 0x5352_5354;
-
-const DBCN: u64 = 0x4442_434e;
-
-/// A call: what a7, a6 and a0 to a3 hold.
-#[derive(Clone, Copy, Debug)]
-struct Call {
-    extension: u64,
-    function: u64,
-    args: [u64; 4],
-}
-
-/// Asks for the version of the specification, which is 2.0.
-const ASK: Call = Call {
-    extension: BASE,
-    function: 0,
-    args: [0; 4],
-};
-
-const VERSION: u64 = 0x0200_0000;
-
-/// Stops the hart that makes it.
-const STOP: Call = Call {
-    extension: HSM,
-    function: 1,
-    args: [0; 4],
-};
-
-fn status(hart: u64) -> Call {
+fn call_of(called: Function, args: [u64; 4]) -> Call {
+    let (extension, function) = called;
     Call {
-        extension: HSM,
-        function: 2,
-        args: [hart, 0, 0, 0],
+        extension,
+        function,
+        args,
     }
-}
-
-fn start_at(hart: u64, address: u64, opaque: u64) -> Call {
-    Call {
-        extension: HSM,
-        function: 0,
-        args: [hart, address, opaque, 0],
-    }
-}
-
-/// Starts a hart that is to make the calls of its list from this one on.
-fn start_from(hart: u8, number: u8) -> Call {
-    let list = LISTS + 0x1000 * u64::from(hart);
-    start_at(u64::from(hart), BEGIN, list + 64 * u64::from(number))
-}
-
-fn start(hart: u8) -> Call {
-    start_from(hart, 0)
-}
-
-fn send(mask: u64, base: u64) -> Call {
-    Call {
-        extension: IPI,
-        function: 0,
-        args: [mask, base, 0, 0],
-    }
-}
-
-/// The errors of the specification that this machine answers.
-#[derive(Clone, Copy, Debug)]
-enum Error {
-    NotSupported,
-    InvalidParam,
-    InvalidAddress,
-    AlreadyAvailable,
 }
 
 /// Its number, which is negative, in a register.
@@ -115,17 +37,6 @@ fn number_of(error: Error) -> u64 {
         Error::InvalidAddress => 0xffff_ffff_ffff_fffb,
         Error::AlreadyAvailable => 0xffff_ffff_ffff_fffa,
     }
-}
-
-/// What a call comes to. Those of the legacy extensions leave a1.
-#[derive(Clone, Copy, Debug)]
-enum Want {
-    Gives(u64),
-    Fails(Error),
-    LegacyGives,
-    LegacyFails(Error),
-    Stops,
-    Ends(Reason),
 }
 
 fn reason_of(want: Want) -> Option<Reason> {
@@ -142,6 +53,10 @@ fn registers_behind(before: [u64; 32], want: Want) -> [u64; 32] {
         Want::Gives(value) => {
             x[10] = 0;
             x[11] = value;
+        }
+        Want::Fences(_) => {
+            x[10] = 0;
+            x[11] = 0;
         }
         Want::Fails(error) => {
             x[10] = number_of(error);
@@ -172,10 +87,8 @@ const CALLER: [u32; 14] = [
     0xfd5f_f06f, // jal x0, pc - 44
 ];
 
-/// Where a hart that is started begins in it, with the place of its list in a1; hart 0 gets its own there.
-const BEGIN: u64 = 0x8000_0004;
-
-/// Where its ecall stands, and how many turns are taken from one to the next.
+/// A hart that is started begins at its second instruction, with the place of its list in a1; hart 0 gets its own there. Where the ecall
+/// stands, and how many turns are taken from one to the next.
 const CALL_PC: u64 = 0x8000_0028;
 
 const ROUND: u64 = 12;
@@ -184,31 +97,33 @@ const ROUND: u64 = 12;
 const FIRST_CALL: u64 = 11;
 
 /// Where hart 0's list stands. Each other hart's is a page behind the last.
-const LISTS: u64 = 0x8003_0000;
-
-/// A hart, the call that it makes next, and what that comes to.
-type Step = (u8, Call, Want);
+const LISTS: u64 = FIRST_LIST;
 
 /// What a4 and a5 hold at each call, of which no answer depends on them.
 const IGNORED: [u64; 2] = [0x44, 0x55];
+
+fn push_long(words: &mut Vec<u32>, value: u64) -> Result<(), AllocError> {
+    words.push((value % 0x1_0000_0000) as u32)?;
+    words.push((value / 0x1_0000_0000) as u32)?;
+    Ok(())
+}
 
 fn push_call(words: &mut Vec<u32>, call: &Call) -> Result<(), AllocError> {
     let [a0, a1, a2, a3] = call.args;
     let [a4, a5] = IGNORED;
     for value in [a0, a1, a2, a3, a4, a5, call.function, call.extension] {
-        words.push((value % 0x1_0000_0000) as u32)?;
-        words.push((value / 0x1_0000_0000) as u32)?;
+        push_long(words, value)?;
     }
     Ok(())
 }
 
 /// The words of the harts' lists.
-fn lists_of(alloc: Global, harts: u8, steps: &[Step]) -> Result<Vec<u32>, AllocError> {
+fn lists_of(alloc: Global, harts: u8, rows: &[HartRow]) -> Result<Vec<u32>, AllocError> {
     let mut words = Vec::new(alloc);
     for list in 0..harts {
-        for (hart, call, _) in steps {
+        for (hart, called, args, _) in rows {
             if *hart == list {
-                push_call(&mut words, call)?;
+                push_call(&mut words, &call_of(*called, *args))?;
             }
         }
         for _ in words.len()..1024 * (usize::from(list) + 1) {
@@ -240,14 +155,14 @@ fn machine_with(
     Ok(PlainMachine::new(alloc, &image, &file, layout, limit)?)
 }
 
-/// A machine whose harts make the calls of these steps.
-fn caller(alloc: Global, harts: u8, limit: u64, steps: &[Step]) -> Result<PlainMachine, Fail>
+/// A machine whose harts make the calls of these rows.
+fn caller(alloc: Global, harts: u8, limit: u64, rows: &[HartRow]) -> Result<PlainMachine, Fail>
     requires some { 1 ≤ harts }
     requires most { harts ≤ 8 }
     requires limit { 0 < limit }
     ensures { IfOk result (λ machine. machine.shared.layout.harts ≡ harts) }
 {
-    let lists = lists_of(alloc, harts, steps)?;
+    let lists = lists_of(alloc, harts, rows)?;
     let segments = [(RAM, CALLER.as_slice()), (LISTS, lists.as_slice())];
     machine_with(alloc, harts, limit, &segments)
 }
@@ -334,33 +249,40 @@ fn take_step(rt: &impl Abort, machine: &mut PlainMachine, hart: u8, call: Call, 
     assert_eq!(rt; shown_of(machine, hart), behind, "hart {hart}, {call:?}");
 }
 
-/// The machine behind these steps, each of which comes to what is wanted.
+/// The machine behind these rows, each of which comes to what is wanted.
 fn play(
     rt: &impl Abort,
     alloc: Global,
     harts: u8,
     limit: u64,
-    steps: &[Step],
+    rows: &[HartRow],
 ) -> Result<PlainMachine, Fail>
     requires some { 1 ≤ harts }
     requires most { harts ≤ 8 }
     requires limit { 0 < limit }
     ensures { IfOk result (λ machine. machine.shared.layout.harts ≡ harts) }
 {
-    let mut machine = caller(alloc, harts, limit, steps)?;
-    for (hart, call, want) in steps {
+    let mut machine = caller(alloc, harts, limit, rows)?;
+    for (hart, called, args, want) in rows {
+        let call = call_of(*called, *args);
         assert!(rt; *hart < harts, "a hart that there is: {call:?}");
-        take_step(rt, &mut machine, *hart, *call, *want);
+        take_step(rt, &mut machine, *hart, call, *want);
     }
     Ok(machine)
 }
 
 /// The same, where the machine itself isn't looked at.
-fn plays(rt: &impl Abort, alloc: Global, harts: u8, limit: u64, steps: &[Step]) -> Result<(), Fail>
+fn plays(
+    rt: &impl Abort,
+    alloc: Global,
+    harts: u8,
+    limit: u64,
+    rows: &[HartRow],
+) -> Result<(), Fail>
     requires some { 1 ≤ harts }
     requires most { harts ≤ 8 }
     requires limit { 0 < limit }
 {
-    play(rt, alloc, harts, limit, steps)?;
+    play(rt, alloc, harts, limit, rows)?;
     Ok(())
 }

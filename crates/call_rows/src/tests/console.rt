@@ -1,137 +1,128 @@
 // Bytes that calls print (SBI, "Debug Console Extension" and "Legacy Extensions").
-ghost use Rattle.std.specs.Prelude.{◌≡◌, ◌<◌, length};
+ghost use Rattle.std.specs.Prelude.{◌≡◌, ◌≤◌, ◌<◌, length};
 ghost use Rattle.step_laws.specs.Steps.{words_of};
 ghost use Rattle.guest_ram.specs.Shown.{all_words};
 
-use super::Error::InvalidParam;
-use super::Want::{Ends, Fails, Gives, LegacyGives, Needs};
-use super::{DBCN, PUTCHAR, TEXT_PLACE, Want, call, plays, row};
+use super::{SUCCESS, end_of, plays_on, row};
 use crate::Row;
 use guest_ram::Words;
-use hart_calls::Reason;
+use hart_calls::{Reason, SbiEnd};
+use sbi_rows::{
+    BYTE_WRITES, PUT, PrintRow, Printed, TEXT_BYTES, TEXT_PLACE, WRITE, WRITE_BYTE, WRITES,
+};
+use std::alloc::{AllocError, Global};
 use std::process::Abort;
 use std::test::Fail;
 use step_laws::{cons_word, console_word, stop_word};
 
-const LAST_BYTE: u64 = 0x803f_ffff;
-
-fn write(count: u64, address: u64, section: bool, want: Want) -> Row {
-    row(
-        false,
-        call(DBCN, 0, [count, address, 0, 0x33]),
-        section,
-        want,
-    )
+fn print(console: &mut Vec<u8>, printed: Printed) -> Result<(), AllocError> {
+    match printed {
+        Printed::Nothing => {}
+        Printed::Byte(byte) => console.push(byte)?,
+        Printed::Text(from, count) => {
+            for byte in TEXT_BYTES.iter().skip(from).take(count) {
+                console.push(*byte)?;
+            }
+        }
+    }
+    Ok(())
 }
 
-fn write_byte(value: u64) -> Row {
-    row(
-        false,
-        call(DBCN, 2, [value, 0x22, 0x33, 0]),
-        false,
-        Gives(0),
-    )
-}
-
-fn put(value: u64) -> Row {
-    row(
-        false,
-        call(PUTCHAR, 9, [value, 0x22, 0, 0]),
-        false,
-        LegacyGives,
-    )
-}
-
-/// The console's first places have these bytes.
+/// The console has these bytes, and no more.
 fn has_printed(rt: &impl Abort, words: &Words, bytes: &[u8])
-    requires words { length (all_words words.now) ≡ words_of (record { harts = 2; pages = 1024 }) }
-    requires few { length bytes.now < 100 }
+    requires words { length (all_words words.now) ≡ words_of (record { harts = 8; pages = 1024 }) }
+    requires few { length bytes.now < 10000 }
 {
+    assert_eq!(rt; words.get(cons_word()), bytes.len() as u64);
     for place in 0..bytes.len() {
         let held = words.get(console_word(place as u32));
         assert_eq!(rt; held, u64::from(bytes[place]) + 0x100, "place {place}");
     }
+    assert_eq!(rt; words.get(console_word(bytes.len() as u32)), 0);
 }
 
-#[test]
-fn bytes_are_printed_in_the_section(rt: HostRuntime) -> Result<(), Fail> {
-    let rows = [
-        write(8, TEXT_PLACE, true, Gives(8)),
-        write(8, TEXT_PLACE, false, Needs),
-        // three words, of which the first and the last are 0
-        write(12, TEXT_PLACE - 2, true, Gives(12)),
-        write(1, LAST_BYTE, false, Needs),
-        write(1, LAST_BYTE, true, Gives(1)),
-        write(2, LAST_BYTE, true, Fails(InvalidParam)),
-        write(2, LAST_BYTE, false, Fails(InvalidParam)),
-        write(0, TEXT_PLACE, false, Gives(0)),
-        write(0, TEXT_PLACE, true, Gives(0)),
-        write(3, TEXT_PLACE + 3, true, Gives(3)),
-    ];
-    let words = plays(&rt, rt.alloc(), &rows)?;
-    let printed = b"abcdefgh\0\0abcdefgh\0\0\0def";
-    assert_eq!(rt; words.get(cons_word()), 24);
-    has_printed(&rt, &words, printed);
-    assert_eq!(rt; words.get(console_word(24)), 0);
+/// Hart 0 of so many makes these calls, in the section or not, and the console has what they print.
+fn all_print(
+    rt: &impl Abort,
+    alloc: Global,
+    harts: u8,
+    section: bool,
+    writes: &[PrintRow],
+) -> Result<(), Fail>
+    requires some { 1 ≤ harts }
+    requires most { harts ≤ 8 }
+{
+    let mut rows = Vec::new(alloc);
+    let mut console = Vec::new(alloc);
+    for (called, args, want, printed) in writes {
+        rows.push(row(false, *called, *args, section, end_of(*want)))?;
+        print(&mut console, *printed)?;
+    }
+    let words = plays_on(rt, alloc, harts, &rows)?;
+    assert!(rt; console.len() < 10_000);
+    has_printed(rt, &words, &console);
     Ok(())
 }
 
-// No more than 256 bytes are printed by a call.
 #[test]
-fn long_texts_are_cut(rt: HostRuntime) -> Result<(), Fail> {
-    let rows = [
-        write(300, TEXT_PLACE - 0x80, true, Gives(256)),
-        write(257, TEXT_PLACE + 7, true, Gives(256)),
-        write(256, TEXT_PLACE + 4, true, Gives(256)),
-    ];
-    let words = plays(&rt, rt.alloc(), &rows)?;
-    assert_eq!(rt; words.get(cons_word()), 768);
-    assert_eq!(rt; words.get(console_word(0x7f)), 0x100);
-    assert_eq!(rt; words.get(console_word(0x80)), 0x161);
-    assert_eq!(rt; words.get(console_word(0x87)), 0x168);
-    assert_eq!(rt; words.get(console_word(256)), 0x168);
-    assert_eq!(rt; words.get(console_word(257)), 0x100);
-    assert_eq!(rt; words.get(console_word(512)), 0x165);
-    Ok(())
+fn bytes_of_memory_are_printed(rt: HostRuntime) -> Result<(), Fail> {
+    all_print(&rt, rt.alloc(), 1, true, &WRITES)?;
+    all_print(&rt, rt.alloc(), 2, true, &WRITES)
 }
 
 #[test]
 fn bytes_of_registers_are_printed(rt: HostRuntime) -> Result<(), Fail> {
-    let rows = [
-        write_byte(0x41),
-        write_byte(0x141),
-        write_byte(0xffff_ffff_ffff_ff00),
-        write_byte(0xff),
-        put(0x42),
-        put(0x142),
-        put(0xffff_ffff_ffff_ffff),
-    ];
-    let words = plays(&rt, rt.alloc(), &rows)?;
-    assert_eq!(rt; words.get(cons_word()), 7);
-    has_printed(&rt, &words, &[0x41, 0x41, 0, 0xff, 0x42, 0x42, 0xff]);
+    for section in [false, true] {
+        all_print(&rt, rt.alloc(), 1, section, &BYTE_WRITES)?;
+        all_print(&rt, rt.alloc(), 2, section, &BYTE_WRITES)?;
+    }
+    Ok(())
+}
+
+// Outside the section a call that would print bytes of memory prints none; another answers as in it.
+#[test]
+fn writes_need_the_section(rt: HostRuntime) -> Result<(), Fail> {
+    let mut rows = Vec::new(rt.alloc());
+    for (called, args, want, printed) in WRITES {
+        let end = match printed {
+            Printed::Nothing => end_of(want),
+            Printed::Byte(_) | Printed::Text(_, _) => SbiEnd::NeedsSection,
+        };
+        rows.push(row(false, called, args, false, end))?;
+    }
+    let words = plays_on(&rt, rt.alloc(), 2, &rows)?;
+    has_printed(&rt, &words, b"");
     Ok(())
 }
 
 // One place is taken, so of the last 256 bytes one finds none. What is printed behind it finds none either.
 #[test]
 fn a_full_console_ends_the_machine(rt: HostRuntime) -> Result<(), Fail> {
-    let mut rows = Vec::new(rt.alloc());
-    rows.push(put(0x41))?;
+    let mut rows: Vec<Row> = Vec::new(rt.alloc());
+    rows.push(row(false, PUT, [0x41, 0, 0, 0], false, SbiEnd::Single(0)))?;
+    let args = [256, TEXT_PLACE, 0, 0];
+    let printed = SbiEnd::Pair {
+        error: 0,
+        value: 256,
+    };
     for _ in 0..4095 {
-        rows.push(write(256, TEXT_PLACE, true, Gives(256)))?;
+        rows.push(row(false, WRITE, args, true, printed))?;
     }
-    rows.push(write(256, TEXT_PLACE, true, Ends(Reason::OutFull)))?;
-    let byte = call(DBCN, 2, [0x42, 0, 0, 0]);
-    rows.push(row(false, byte, false, Ends(Reason::OutFull)))?;
-    let legacy = call(PUTCHAR, 0, [0x42, 0, 0, 0]);
-    rows.push(row(false, legacy, false, Ends(Reason::OutFull)))?;
-    let words = plays(&rt, rt.alloc(), &rows)?;
+    let full = SbiEnd::Over(Reason::OutFull);
+    rows.push(row(false, WRITE, args, true, full))?;
+    rows.push(row(false, WRITE_BYTE, [0x42, 0, 0, 0], false, full))?;
+    rows.push(row(false, PUT, [0x42, 0, 0, 0], false, full))?;
+    // no byte needs no place
+    rows.push(row(false, WRITE, [0, TEXT_PLACE, 0, 0], false, SUCCESS))?;
+    let words = plays_on(&rt, rt.alloc(), 2, &rows)?;
     // the three bytes for which there was no place drew one each
     assert_eq!(rt; words.get(cons_word()), 1_048_579);
+    // an A, and then the text's first 256 bytes again and again
     assert_eq!(rt; words.get(console_word(0)), 0x141);
-    assert_eq!(rt; words.get(console_word(1)), 0x161);
-    assert_eq!(rt; words.get(console_word(1_048_328)), 0x168);
-    assert_eq!(rt; words.get(console_word(1_048_575)), 0x100);
+    assert_eq!(rt; words.get(console_word(1)), 0x100);
+    assert_eq!(rt; words.get(console_word(2)), 0x164);
+    assert_eq!(rt; words.get(console_word(1_048_328)), 0x160);
+    assert_eq!(rt; words.get(console_word(1_048_575)), 0x162);
     // the console is full
     assert_eq!(rt; words.get(stop_word()), 4);
     Ok(())

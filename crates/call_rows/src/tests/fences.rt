@@ -1,154 +1,160 @@
 // Masks of harts, and the ranges of fences (SBI, "IPI Extension" and "RFENCE Extension").
-use super::Error::{InvalidAddress, InvalidParam};
-use super::Want::{Fails, Fences, Gives};
-use super::{ALL, IPI, RFENCE, Want, call, plays, row};
+ghost use Rattle.std.specs.Prelude.{◌≤◌};
+
+use super::calls::push_all;
+use super::harts::push_steps;
+use super::{SUCCESS, failed, plays_on, plays_with, row};
 use crate::Row;
-use hart_calls::Span;
+use hart_calls::{SbiEnd, Span};
+use sbi_rows::Error::{InvalidAddress, InvalidParam};
+use sbi_rows::{
+    FENCE_ROWS, FENCES_OF_STOPPED, INTERRUPTS_OF_FOUR, MASKS, MASKS_OF_EIGHT, MASKS_OF_FOUR,
+    MASKS_OF_ONE, MASKS_OF_TWO, MaskRow, Named, RANGES, RFENCE, Reach, SEND,
+};
+use std::alloc::Global;
+use std::process::Abort;
 use std::test::Fail;
 use step_laws::ipi_word;
 
-/// A mask and its base, and the harts that they name, where all are there.
-type MaskRow = (u64, u64, Option<u64>);
-
-const MASKS: [MaskRow; 28] = [
-    (0, 0, Some(0)),
-    (1, 0, Some(1)),
-    (2, 0, Some(2)),
-    (3, 0, Some(3)),
-    (1, 1, Some(2)),
-    (0, 1, Some(0)),
-    (0, 9, Some(0)),
-    (0, ALL - 1, Some(0)),
-    // all harts, whatever the mask
-    (0, ALL, Some(3)),
-    (1, ALL, Some(3)),
-    (2, ALL, Some(3)),
-    (ALL, ALL, Some(3)),
-    (4, 0, None),
-    (7, 0, None),
-    (2, 1, None),
-    (0x10, 0, None),
-    (0x11, 0, None),
-    (0x100, 0, None),
-    (0x1_0000_0000, 0, None),
-    (1 << 63, 0, None),
-    (ALL, 0, None),
-    (1, 2, None),
-    (1, 9, None),
-    (1, 0x100, None),
-    (1, 0x1_0000_0000, None),
-    // 2^64 - 1, 2^64 and 2^64 + 1
-    (2, ALL - 1, None),
-    (4, ALL - 1, None),
-    (8, ALL - 1, None),
-];
+/// The bits of the harts that are named, of so many, where all are there.
+fn bits_of(named: Named, harts: u8) -> Option<u64>
+    requires { harts ≤ 8 }
+{
+    match named {
+        Named::Harts(bits) => Some(bits),
+        Named::All => Some(0xff >> (8 - harts)),
+        Named::Missing => None,
+    }
+}
 
 /// What a fence of everything comes to at these harts.
-fn fenced(harts: Option<u64>) -> Want {
-    match harts {
-        None => Fails(InvalidParam),
-        Some(0) => Gives(0),
-        Some(named) => Fences(named, Span::All),
+fn fenced(bits: Option<u64>) -> SbiEnd {
+    match bits {
+        None => failed(InvalidParam),
+        Some(0) => SUCCESS,
+        Some(harts) => SbiEnd::Fence {
+            harts,
+            span: Span::All,
+        },
     }
 }
 
-fn sent(harts: Option<u64>) -> Want {
-    match harts {
-        None => Fails(InvalidParam),
-        Some(_) => Gives(0),
+/// What an interrupt comes to, or a fence of instructions, which none of this machine needs.
+fn sent(bits: Option<u64>) -> SbiEnd {
+    match bits {
+        None => failed(InvalidParam),
+        Some(_) => SUCCESS,
     }
 }
 
-#[test]
-fn masks_name_harts(rt: HostRuntime) -> Result<(), Fail> {
-    let mut rows: Vec<Row> = Vec::new(rt.alloc());
-    for (mask, base, harts) in MASKS {
-        let args = [mask, base, 0, 0];
-        rows.push(row(false, call(RFENCE, 0, args), false, sent(harts)))?;
-        rows.push(row(false, call(RFENCE, 1, args), false, fenced(harts)))?;
-        rows.push(row(false, call(RFENCE, 2, args), false, fenced(harts)))?;
+/// Fences by masks, on a machine of so many harts, of which none gets an interrupt.
+fn masks_are_fenced(
+    rt: &impl Abort,
+    alloc: Global,
+    harts: u8,
+    masks: &[MaskRow],
+) -> Result<(), Fail>
+    requires some { 1 ≤ harts }
+    requires most { harts ≤ 8 }
+{
+    let mut rows = Vec::new(alloc);
+    for (mask, base, named) in masks {
+        let args = [*mask, *base, 0, 0];
+        let bits = bits_of(*named, harts);
+        rows.push(row(false, (RFENCE, 0), args, false, sent(bits)))?;
+        rows.push(row(false, (RFENCE, 1), args, false, fenced(bits)))?;
+        rows.push(row(false, (RFENCE, 2), args, false, fenced(bits)))?;
     }
-    let words = plays(&rt, rt.alloc(), &rows)?;
+    let words = plays_on(rt, alloc, harts, &rows)?;
+    assert_eq!(rt; words.get(ipi_word()), 0);
+    Ok(())
+}
+
+/// Interrupts by masks: those that no hart gets one after another, and each other on a machine of its own.
+fn masks_are_sent(rt: &impl Abort, alloc: Global, harts: u8, masks: &[MaskRow]) -> Result<(), Fail>
+    requires some { 1 ≤ harts }
+    requires most { harts ≤ 8 }
+{
+    let mut idle = Vec::new(alloc);
+    for (mask, base, named) in masks {
+        let bits = bits_of(*named, harts);
+        let sends = row(false, SEND, [*mask, *base, 0, 0], false, sent(bits));
+        let got = bits.unwrap_or(0);
+        if got == 0 {
+            idle.push(sends)?;
+        } else {
+            let words = plays_on(rt, alloc, harts, &[sends])?;
+            assert_eq!(rt; words.get(ipi_word()), got, "{mask} {base}");
+        }
+    }
+    let words = plays_on(rt, alloc, harts, &idle)?;
     assert_eq!(rt; words.get(ipi_word()), 0);
     Ok(())
 }
 
 #[test]
-fn interrupts_are_sent(rt: HostRuntime) -> Result<(), Fail> {
-    for (mask, base, harts) in MASKS {
-        let sends = row(false, call(IPI, 0, [mask, base, 0, 0]), false, sent(harts));
-        let words = plays(&rt, rt.alloc(), &[sends])?;
-        assert_eq!(rt; words.get(ipi_word()), harts.unwrap_or(0), "{mask} {base}");
-    }
-    Ok(())
+fn masks_name_harts(rt: HostRuntime) -> Result<(), Fail> {
+    let alloc = rt.alloc();
+    masks_are_fenced(&rt, alloc, 1, &MASKS)?;
+    masks_are_fenced(&rt, alloc, 1, &MASKS_OF_ONE)?;
+    masks_are_fenced(&rt, alloc, 2, &MASKS)?;
+    masks_are_fenced(&rt, alloc, 2, &MASKS_OF_TWO)?;
+    masks_are_fenced(&rt, alloc, 4, &MASKS)?;
+    masks_are_fenced(&rt, alloc, 4, &MASKS_OF_FOUR)?;
+    masks_are_fenced(&rt, alloc, 8, &MASKS_OF_EIGHT)
 }
 
-fn pages(page: u64, count: u16) -> Want {
-    Fences(1, Span::Pages { page, count })
+#[test]
+fn interrupts_are_sent(rt: HostRuntime) -> Result<(), Fail> {
+    let alloc = rt.alloc();
+    masks_are_sent(&rt, alloc, 1, &MASKS)?;
+    masks_are_sent(&rt, alloc, 1, &MASKS_OF_ONE)?;
+    masks_are_sent(&rt, alloc, 2, &MASKS)?;
+    masks_are_sent(&rt, alloc, 2, &MASKS_OF_TWO)?;
+    masks_are_sent(&rt, alloc, 4, &MASKS)?;
+    masks_are_sent(&rt, alloc, 4, &MASKS_OF_FOUR)?;
+    masks_are_sent(&rt, alloc, 4, &INTERRUPTS_OF_FOUR)?;
+    masks_are_sent(&rt, alloc, 8, &MASKS_OF_EIGHT)
+}
+
+/// What hart 0's fence of a range comes to at itself.
+fn reached(reach: Reach) -> SbiEnd {
+    match reach {
+        Reach::Pages(page, count) => SbiEnd::Fence {
+            harts: 1,
+            span: Span::Pages { page, count },
+        },
+        Reach::Everything => SbiEnd::Fence {
+            harts: 1,
+            span: Span::All,
+        },
+        Reach::Beyond => failed(InvalidAddress),
+    }
 }
 
 #[test]
 fn ranges_are_of_pages(rt: HostRuntime) -> Result<(), Fail> {
-    let all = Fences(1, Span::All);
-    let ranges = [
-        (0, 0, all),
-        (0, 1, pages(0, 1)),
-        (0, 0x1000, pages(0, 1)),
-        (0, 0x1001, pages(0, 2)),
-        (0x1000, 0, pages(1, 1)),
-        (0xfff, 2, pages(0, 2)),
-        (0x1000, 0x4_0000, pages(1, 64)),
-        (0x1000, 0x4_0001, pages(1, 65)),
-        (0x1000, 532_480, pages(1, 130)),
-        // 512 pages, and one more
-        (0x1000, 0x20_0000, pages(1, 512)),
-        (0x1000, 0x20_0001, all),
-        (0x1001, 0x20_0000, all),
-        (0, ALL - 1, all),
-        (2, ALL - 1, all),
-        (3, ALL - 1, Fails(InvalidAddress)),
-        (1 << 63, 1 << 63, all),
-        (1 << 63, (1 << 63) + 1, Fails(InvalidAddress)),
-        (ALL - 0xfff, 0x1000, pages(0xf_ffff_ffff_ffff, 1)),
-        (ALL - 0xfff, 0x1001, Fails(InvalidAddress)),
-        (
-            0xffff_ffff_ffe0_0000,
-            0x20_0000,
-            pages(0xf_ffff_ffff_fe00, 512),
-        ),
-        // one page, one byte and one more
-        (ALL, 0, pages(0xf_ffff_ffff_ffff, 1)),
-        (ALL, 1, pages(0xf_ffff_ffff_ffff, 1)),
-        (ALL, 2, Fails(InvalidAddress)),
-        // everything, from wherever
-        (1, ALL, all),
-        (ALL, ALL, all),
-    ];
-    let mut rows: Vec<Row> = Vec::new(rt.alloc());
-    for (start, size, want) in ranges {
+    let alloc = rt.alloc();
+    let mut rows = Vec::new(alloc);
+    for (start, size, reach) in RANGES {
         for function in [1, 2] {
-            let fence = call(RFENCE, function, [1, 0, start, size]);
-            rows.push(row(false, fence, false, want))?;
+            let args = [1, 0, start, size];
+            rows.push(row(false, (RFENCE, function), args, false, reached(reach)))?;
         }
     }
-    plays(&rt, rt.alloc(), &rows)?;
+    // of both errors the mask's comes first
+    push_all(&mut rows, RFENCE, &FENCE_ROWS)?;
+    plays_on(&rt, alloc, 1, &rows)?;
+    plays_on(&rt, alloc, 2, &rows)?;
+    plays_on(&rt, alloc, 4, &rows)?;
     Ok(())
 }
 
-// Of both errors the mask's comes first; where no hart is named the range has its error all the same.
+// A stopped hart is there: a fence names it as any other.
 #[test]
-fn a_mask_is_refused_before_a_range(rt: HostRuntime) -> Result<(), Fail> {
-    let rows = [
-        (0, [1, 0, ALL, 2], Gives(0)),
-        (1, [0, 0, ALL, 2], Fails(InvalidAddress)),
-        (1, [0, ALL, ALL, 2], Fails(InvalidAddress)),
-        (1, [1, 9, ALL, 2], Fails(InvalidParam)),
-        (2, [1, 9, ALL, 2], Fails(InvalidParam)),
-        (2, [0, 9, ALL, 2], Fails(InvalidAddress)),
-    ];
-    for (function, args, want) in rows {
-        let fence = row(false, call(RFENCE, function, args), false, want);
-        plays(&rt, rt.alloc(), &[fence])?;
-    }
+fn fences_name_stopped_harts(rt: HostRuntime) -> Result<(), Fail> {
+    let mut rows = Vec::new(rt.alloc());
+    push_steps(&mut rows, 3, &FENCES_OF_STOPPED)?;
+    plays_with(&rt, rt.alloc(), 4, 3, &rows)?;
     Ok(())
 }

@@ -1,54 +1,110 @@
 // Harts that start, stop and start again (SBI, "Hart State Management Extension").
-use super::Error::{AlreadyAvailable, InvalidAddress, InvalidParam};
-use super::Want::{Ends, Fails, Gives, Stops};
-use super::{HSM, Want, begins, call, plays, row};
-use crate::{Call, Came, Row};
-use hart_calls::Reason;
-use std::test::Fail;
-use step_laws::{hsm_word, live_word, opaque_word, start_word, stop_word};
+ghost use Rattle.std.specs.Prelude.{◌≡◌, ◌≤◌, ◌<◌, IfOk, length};
+ghost use Rattle.step_laws.specs.Steps.{words_of};
+ghost use Rattle.guest_ram.specs.Shown.{all_words};
 
-const BEGIN: u64 = 0x8000_0004;
-
-const STOP: Call = Call {
-    extension: HSM,
-    function: 1,
-    args: [0; 4],
+use super::{SUCCESS, begins, end_of, plays_on, plays_with, row};
+use crate::{Came, Row};
+use guest_ram::Words;
+use sbi_rows::Want::{Gives, Stops};
+use sbi_rows::{
+    ALL, ALL_RUN, BEGIN, BEGINS, BOTH_RUN, FIRST_STARTED_AGAIN, FIRST_STOPS_FIRST, HartRow,
+    LAST_STOPS_AT_LIMIT, LONE_STOP, NEVER_BEGUN, NO_ARGS, PENDING_AT_LIMIT, PENDING_AT_STOP,
+    RUNNING_AT_LIMIT, SECOND_STOPS, SECOND_STOPS_FIRST, SENT, START, STARTED, STATES, STATUS, STOP,
+    STOPS_IN_NO_ORDER, Want,
 };
+use std::alloc::Global;
+use std::process::Abort;
+use std::test::Fail;
+use step_laws::{hsm_word, ipi_word, live_word, opaque_word, start_word, stop_word};
 
-fn status(hart: u64) -> Call {
-    call(HSM, 2, [hart, 0, 0, 0])
+fn is_success(want: Want) -> bool {
+    matches!(want, Gives(_))
 }
 
-fn start_at(hart: u64, address: u64, opaque: u64) -> Call {
-    call(HSM, 0, [hart, address, opaque, 0])
+/// The steps of hart 0 and this one, without those of others, which have no seat. A hart whose start is pending looks before its next call
+/// whether it is to begin, and finds what the start gave.
+pub(super) fn push_steps(rows: &mut Vec<Row>, second: u8, steps: &[HartRow]) -> Result<(), Fail> {
+    let mut is_pending = false;
+    let mut named = 0;
+    let mut at = 0;
+    let mut opaque = 0;
+    for (hart, called, args, want) in steps {
+        let is_second = *hart == second;
+        if *hart != 0 && !is_second {
+            continue;
+        }
+        if is_pending && named == u64::from(*hart) {
+            rows.push(begins(is_second, Came::Began { at, opaque }))?;
+            is_pending = false;
+        }
+        let [target, place, value, _] = *args;
+        let is_other = target != u64::from(*hart) && (target == 0 || target == u64::from(second));
+        if *called == START && is_other && is_success(*want) {
+            is_pending = true;
+            named = target;
+            at = place;
+            opaque = value;
+        }
+        rows.push(row(is_second, *called, *args, false, end_of(*want)))?;
+    }
+    Ok(())
 }
 
-fn first(call: Call, want: Want) -> Row {
-    row(false, call, false, want)
+/// Plays steps of harts 0 and 1, of so many.
+fn steps_play(rt: &impl Abort, alloc: Global, harts: u8, steps: &[HartRow]) -> Result<Words, Fail>
+    requires some { 1 ≤ harts }
+    requires most { harts ≤ 8 }
+    ensures { IfOk result (λ words. length (all_words words) ≡ words_of (record { harts = 8; pages = 1024 })) }
+{
+    let mut rows = Vec::new(alloc);
+    push_steps(&mut rows, 1, steps)?;
+    plays_on(rt, alloc, harts, &rows)
 }
 
-fn second(call: Call, want: Want) -> Row {
-    row(true, call, false, want)
+/// How many harts are not stopped, the states of harts 0 and 1, and why the machine has ended.
+fn compare(rt: &impl Abort, words: &Words, live: u64, states: [u64; 2], stop: u64)
+    requires { length (all_words words.now) ≡ words_of (record { harts = 8; pages = 1024 }) }
+{
+    assert_eq!(rt; words.get(live_word()), live);
+    assert_eq!(rt; [words.get(hsm_word(0)), words.get(hsm_word(1))], states);
+    assert_eq!(rt; words.get(stop_word()), stop);
 }
+
+/// The same of four harts, where the machine has not ended.
+fn compare_four(rt: &impl Abort, words: &Words, live: u64, states: [u64; 4])
+    requires { length (all_words words.now) ≡ words_of (record { harts = 8; pages = 1024 }) }
+{
+    assert_eq!(rt; words.get(live_word()), live);
+    let found = [
+        words.get(hsm_word(0)),
+        words.get(hsm_word(1)),
+        words.get(hsm_word(2)),
+        words.get(hsm_word(3)),
+    ];
+    assert_eq!(rt; found, states);
+    assert_eq!(rt; words.get(stop_word()), 0);
+}
+
+/// All harts are stopped: what STOP has then.
+const ALL_STOPPED: u64 = 5;
 
 #[test]
 fn harts_go_through_their_states(rt: HostRuntime) -> Result<(), Fail> {
+    let words = steps_play(&rt, rt.alloc(), 2, &STATES)?;
+    compare(&rt, &words, 2, [0, 0], 0);
+    assert_eq!(rt; words.get(start_word(1)), BEGIN);
+    // the fifth call of hart 1's list
+    assert_eq!(rt; words.get(opaque_word(1)), 0x8003_1100);
+    Ok(())
+}
+
+// A hart looks in vain before its start; it begins a second life elsewhere, with another value.
+#[test]
+fn a_second_life_begins_elsewhere(rt: HostRuntime) -> Result<(), Fail> {
     let rows = [
-        first(status(0), Gives(0)),
-        first(status(1), Gives(1)),
         begins(true, Came::Nothing),
-        first(start_at(0, BEGIN, 0), Fails(AlreadyAvailable)),
-        first(start_at(9, BEGIN, 0), Fails(InvalidParam)),
-        first(start_at(1, BEGIN + 2, 0), Fails(InvalidAddress)),
-        first(start_at(1, 0x7fff_fffc, 0), Fails(InvalidAddress)),
-        first(start_at(1, 0x8040_0000, 0), Fails(InvalidAddress)),
-        first(status(1), Gives(1)),
-        first(start_at(1, BEGIN, 77), Gives(0)),
-        first(status(1), Gives(2)),
-        // what is refused leaves the start that is pending
-        first(start_at(1, 0x8000_0000, 7), Fails(AlreadyAvailable)),
-        first(start_at(1, BEGIN + 2, 0), Fails(InvalidAddress)),
-        first(status(1), Gives(2)),
+        row(false, START, [1, BEGIN, 77, 0], false, SUCCESS),
         begins(
             true,
             Came::Began {
@@ -56,67 +112,128 @@ fn harts_go_through_their_states(rt: HostRuntime) -> Result<(), Fail> {
                 opaque: 77,
             },
         ),
-        second(status(1), Gives(0)),
-        first(status(1), Gives(0)),
-        first(start_at(1, BEGIN, 7), Fails(AlreadyAvailable)),
-        second(start_at(1, BEGIN, 7), Fails(AlreadyAvailable)),
-        second(start_at(0, BEGIN, 7), Fails(AlreadyAvailable)),
-        second(STOP, Stops),
-        first(status(1), Gives(1)),
-        // a second life with another value
-        first(start_at(1, BEGIN + 4, 0xffff_ffff_ffff_ffff), Gives(0)),
-        first(status(1), Gives(2)),
+        row(true, STOP, NO_ARGS, false, end_of(Stops)),
+        begins(true, Came::Nothing),
+        row(false, START, [1, BEGIN + 4, ALL, 0], false, SUCCESS),
+        row(false, STATUS, [1, 0, 0, 0], false, end_of(Gives(2))),
         begins(
             true,
             Came::Began {
                 at: BEGIN + 4,
-                opaque: 0xffff_ffff_ffff_ffff,
+                opaque: ALL,
             },
         ),
-        second(status(0), Gives(0)),
-        first(status(1), Gives(0)),
+        row(true, STATUS, [0, 0, 0, 0], false, SUCCESS),
+        row(false, STATUS, [1, 0, 0, 0], false, SUCCESS),
     ];
-    let words = plays(&rt, rt.alloc(), &rows)?;
-    assert_eq!(rt; words.get(live_word()), 2);
-    assert_eq!(rt; words.get(hsm_word(1)), 0);
+    let words = plays_on(&rt, rt.alloc(), 2, &rows)?;
+    compare(&rt, &words, 2, [0, 0], 0);
     assert_eq!(rt; words.get(start_word(1)), BEGIN + 4);
-    assert_eq!(rt; words.get(opaque_word(1)), 0xffff_ffff_ffff_ffff);
-    assert_eq!(rt; words.get(stop_word()), 0);
+    assert_eq!(rt; words.get(opaque_word(1)), ALL);
     Ok(())
 }
 
-// Hart 0 is as any other: another starts it again. The last to stop ends the machine.
 #[test]
 fn the_first_hart_stops_and_starts(rt: HostRuntime) -> Result<(), Fail> {
-    let rows = [
-        first(start_at(1, BEGIN, 1), Gives(0)),
-        first(STOP, Stops),
-        begins(
-            true,
-            Came::Began {
-                at: BEGIN,
-                opaque: 1,
-            },
-        ),
-        second(status(0), Gives(1)),
-        second(start_at(0, BEGIN, 2), Gives(0)),
-        second(status(0), Gives(2)),
-        second(STOP, Stops),
-        begins(
-            false,
-            Came::Began {
-                at: BEGIN,
-                opaque: 2,
-            },
-        ),
-        first(status(1), Gives(1)),
-        first(status(0), Gives(0)),
-        first(STOP, Ends(Reason::AllStopped)),
-    ];
-    let words = plays(&rt, rt.alloc(), &rows)?;
-    assert_eq!(rt; words.get(live_word()), 0);
-    assert_eq!(rt; (words.get(hsm_word(0)), words.get(hsm_word(1))), (1, 1));
-    // all harts are stopped
-    assert_eq!(rt; words.get(stop_word()), 5);
+    let words = steps_play(&rt, rt.alloc(), 2, &FIRST_STARTED_AGAIN)?;
+    compare(&rt, &words, 0, [1, 1], ALL_STOPPED);
+    Ok(())
+}
+
+#[test]
+fn the_last_to_stop_ends_the_machine(rt: HostRuntime) -> Result<(), Fail> {
+    let alloc = rt.alloc();
+    for steps in [
+        FIRST_STOPS_FIRST.as_slice(),
+        SECOND_STOPS_FIRST.as_slice(),
+        PENDING_AT_STOP.as_slice(),
+    ] {
+        let words = steps_play(&rt, alloc, 2, steps)?;
+        compare(&rt, &words, 0, [1, 1], ALL_STOPPED);
+    }
+    Ok(())
+}
+
+// Harts that were never started are stopped.
+#[test]
+fn a_lone_hart_ends_the_machine(rt: HostRuntime) -> Result<(), Fail> {
+    let alloc = rt.alloc();
+    for steps in [LONE_STOP, LAST_STOPS_AT_LIMIT] {
+        let words = steps_play(&rt, alloc, 1, &steps)?;
+        compare(&rt, &words, 0, [1, 0], ALL_STOPPED);
+        for harts in [2, 4, 8] {
+            let words = steps_play(&rt, alloc, harts, &steps)?;
+            compare(&rt, &words, 0, [1, 1], ALL_STOPPED);
+        }
+    }
+    Ok(())
+}
+
+#[test]
+fn harts_run_or_stand_still(rt: HostRuntime) -> Result<(), Fail> {
+    let alloc = rt.alloc();
+    for (steps, live, states) in [
+        (NEVER_BEGUN.as_slice(), 1, [0, 1]),
+        (STARTED.as_slice(), 2, [0, 2]),
+        (BOTH_RUN.as_slice(), 2, [0, 0]),
+        (SECOND_STOPS.as_slice(), 1, [0, 1]),
+        (PENDING_AT_LIMIT.as_slice(), 1, [1, 2]),
+        (RUNNING_AT_LIMIT.as_slice(), 1, [1, 0]),
+    ] {
+        let words = steps_play(&rt, alloc, 2, steps)?;
+        compare(&rt, &words, live, states, 0);
+    }
+    Ok(())
+}
+
+#[test]
+fn harts_begin_with_what_they_were_given(rt: HostRuntime) -> Result<(), Fail> {
+    for (hart, at, opaque) in BEGINS {
+        let target = u64::from(hart);
+        let rows = [
+            row(false, START, [target, at, opaque, 0], false, SUCCESS),
+            row(false, STATUS, [target, 0, 0, 0], false, end_of(Gives(2))),
+            begins(true, Came::Began { at, opaque }),
+            row(false, STATUS, [target, 0, 0, 0], false, SUCCESS),
+        ];
+        assert!(rt; 1 <= hart && hart < 4, "a hart that there is");
+        let words = plays_with(&rt, rt.alloc(), 4, hart, &rows)?;
+        assert_eq!(rt; words.get(live_word()), 2);
+        assert_eq!(rt; words.get(start_word(hart)), at);
+        assert_eq!(rt; words.get(opaque_word(hart)), opaque);
+    }
+    Ok(())
+}
+
+// A third hart has no seat. Where all run, each of the others has one in its turn.
+#[test]
+fn harts_start_one_another(rt: HostRuntime) -> Result<(), Fail> {
+    let alloc = rt.alloc();
+    for (second, states) in [(1, [0, 0, 2, 2]), (2, [0, 2, 0, 2]), (3, [0, 2, 2, 0])] {
+        let mut rows = Vec::new(alloc);
+        push_steps(&mut rows, second, &ALL_RUN)?;
+        assert!(rt; 1 <= second && second < 4, "a hart that there is");
+        let words = plays_with(&rt, alloc, 4, second, &rows)?;
+        compare_four(&rt, &words, 4, states);
+    }
+    Ok(())
+}
+
+// Hart 3 starts hart 1, whose start stays pending: it is not stopped, so the other two may stop in any order.
+#[test]
+fn harts_stop_in_no_order(rt: HostRuntime) -> Result<(), Fail> {
+    let mut rows = Vec::new(rt.alloc());
+    push_steps(&mut rows, 3, &STOPS_IN_NO_ORDER)?;
+    let words = plays_with(&rt, rt.alloc(), 4, 3, &rows)?;
+    compare_four(&rt, &words, 1, [1, 2, 1, 1]);
+    Ok(())
+}
+
+// One sent to a hart that has not begun, or is stopped, is a success too.
+#[test]
+fn interrupts_are_sent_to_any_hart(rt: HostRuntime) -> Result<(), Fail> {
+    let words = steps_play(&rt, rt.alloc(), 2, &SENT)?;
+    compare(&rt, &words, 1, [0, 1], 0);
+    assert_eq!(rt; words.get(ipi_word()), 3);
     Ok(())
 }

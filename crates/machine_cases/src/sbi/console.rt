@@ -1,86 +1,38 @@
 // Bytes that calls print (SBI, "Debug Console Extension" and "Legacy Extensions").
 ghost use Rattle.std.specs.Prelude.{◌≡◌, ◌≤◌, ◌<◌, IfOk};
 
-use self::Printed::{Byte, Nothing, Text};
-use super::Error::InvalidParam;
-use super::Want::{Fails, Gives, LegacyGives};
 use super::{
-    CALLER, Call, DBCN, FAR, LISTS, PUTCHAR, Step, Want, lists_of, machine_with, take_step,
-    turn_times,
+    CALLER, FAR, LISTS, call_of, lists_of, machine_with, push_long, take_step, turn_times,
 };
 use crate::supervisor::machine_of;
 use case_guests::RAM;
 use ref_machine::{PlainMachine, Reason};
+use sbi_rows::{
+    BYTE_WRITES, HartRow, LAST_BYTE, LAST_WORD, PrintRow, Printed, TEXT, TEXT_BYTES, TEXT_PLACE,
+    WRITES,
+};
 use std::alloc::{AllocError, Global};
 use std::process::Abort;
 use std::test::Fail;
 
-/// Where a text of 300 bytes stands, and RAM's last byte.
-const TEXT_PLACE: u64 = 0x8002_0000;
-
-const LAST_BYTE: u64 = 0x803f_ffff;
-
-/// RAM's last word, whose last byte is a Z.
-const LAST_WORD: [u32; 1] = [0x5a58_5858];
-
 /// What the console takes.
 const PLACES: usize = 1_048_576;
 
-/// The text: words that differ, of bytes that differ.
-fn text_words(alloc: Global) -> Result<Vec<u32>, AllocError> {
-    (0..75).map(|number| 0x6062_6400 + number).collect(alloc)
-}
-
-fn text_bytes(alloc: Global) -> Result<Vec<u8>, AllocError> {
-    let mut bytes = Vec::new(alloc);
-    for number in 0..75 {
-        bytes.extend_from_slice(&[number, 0x64, 0x62, 0x60])?;
+/// The halves of these words of memory.
+fn halves_of(alloc: Global, longs: &[u64]) -> Result<Vec<u32>, AllocError> {
+    let mut words = Vec::new(alloc);
+    for long in longs {
+        push_long(&mut words, *long)?;
     }
-    Ok(bytes)
+    Ok(words)
 }
 
-fn console_call(function: u64, args: [u64; 3]) -> Call {
-    let [a0, a1, a2] = args;
-    Call {
-        extension: DBCN,
-        function,
-        args: [a0, a1, a2, 0x33],
-    }
-}
-
-fn write(count: u64, address: u64) -> Call {
-    console_call(0, [count, address, 0])
-}
-
-fn write_byte(value: u64) -> Call {
-    console_call(2, [value, 0x22, 0x33])
-}
-
-fn put(value: u64) -> Call {
-    Call {
-        extension: PUTCHAR,
-        function: 9,
-        args: [value, 0x22, 0, 0],
-    }
-}
-
-/// What a call prints.
-#[derive(Clone, Copy)]
-enum Printed {
-    Nothing,
-    Byte(u8),
-    Text(usize, usize),
-}
-
-/// A call, what it comes to, and what it prints.
-type Row = (Call, Want, Printed);
-
-fn print(console: &mut Vec<u8>, text: &[u8], printed: Printed) -> Result<(), AllocError> {
+fn print(console: &mut Vec<u8>, printed: Printed) -> Result<(), AllocError> {
     match printed {
         Printed::Nothing => {}
         Printed::Byte(byte) => console.push(byte)?,
         Printed::Text(from, count) => {
-            for byte in text.iter().skip(from).take(count) {
+            for byte in TEXT_BYTES.iter().skip(from).take(count) {
                 console.push(*byte)?;
             }
         }
@@ -88,32 +40,33 @@ fn print(console: &mut Vec<u8>, text: &[u8], printed: Printed) -> Result<(), All
     Ok(())
 }
 
-/// A machine of one hart that makes these calls, with the text and RAM's last byte.
-fn writer(alloc: Global, rows: &[Row]) -> Result<PlainMachine, Fail>
+/// A machine of one hart that makes these calls, with the text and RAM's last word.
+fn writer(alloc: Global, rows: &[PrintRow]) -> Result<PlainMachine, Fail>
     ensures { IfOk result (λ machine. machine.shared.layout.harts ≡ 1) }
 {
-    let mut steps: Vec<Step> = Vec::new(alloc);
-    for (call, want, _) in rows {
-        steps.push((0, *call, *want))?;
+    let mut steps: Vec<HartRow> = Vec::new(alloc);
+    for (called, args, want, _) in rows {
+        steps.push((0, *called, *args, *want))?;
     }
     let lists = lists_of(alloc, 1, &steps)?;
-    let text = text_words(alloc)?;
+    let text = halves_of(alloc, &TEXT)?;
+    let last = halves_of(alloc, &[LAST_WORD])?;
     let segments = [
         (RAM, CALLER.as_slice()),
         (LISTS, lists.as_slice()),
         (TEXT_PLACE, text.as_slice()),
-        (LAST_BYTE - 3, LAST_WORD.as_slice()),
+        (LAST_BYTE - 7, last.as_slice()),
     ];
     machine_with(alloc, 1, FAR, &segments)
 }
 
-fn all_print(rt: &impl Abort, alloc: Global, rows: &[Row]) -> Result<(), Fail> {
+fn all_print(rt: &impl Abort, alloc: Global, rows: &[PrintRow]) -> Result<(), Fail> {
     let mut machine = writer(alloc, rows)?;
-    let text = text_bytes(alloc)?;
     let mut console = Vec::new(alloc);
-    for (call, want, printed) in rows {
-        take_step(rt, &mut machine, 0, *call, *want);
-        print(&mut console, &text, *printed)?;
+    for (called, args, want, printed) in rows {
+        let call = call_of(*called, *args);
+        take_step(rt, &mut machine, 0, call, *want);
+        print(&mut console, *printed)?;
         assert_eq!(rt; machine.console(), console.as_slice(), "{call:?}");
     }
     Ok(())
@@ -121,36 +74,7 @@ fn all_print(rt: &impl Abort, alloc: Global, rows: &[Row]) -> Result<(), Fail> {
 
 #[test]
 fn bytes_of_memory_are_printed(rt: HostRuntime) -> Result<(), Fail> {
-    let rows = [
-        (write(300, TEXT_PLACE), Gives(256), Text(0, 256)),
-        (write(1, TEXT_PLACE), Gives(1), Text(0, 1)),
-        (write(3, TEXT_PLACE + 1), Gives(3), Text(1, 3)),
-        (write(9, TEXT_PLACE + 6), Gives(9), Text(6, 9)),
-        (write(255, TEXT_PLACE), Gives(255), Text(0, 255)),
-        (write(256, TEXT_PLACE + 4), Gives(256), Text(4, 256)),
-        (write(257, TEXT_PLACE + 7), Gives(256), Text(7, 256)),
-        (write(0x3e_0000, TEXT_PLACE), Gives(256), Text(0, 256)),
-        (write(0x3e_0001, TEXT_PLACE), Fails(InvalidParam), Nothing),
-        (write(0, TEXT_PLACE), Gives(0), Nothing),
-        (write(0, 0), Gives(0), Nothing),
-        (write(1, LAST_BYTE), Gives(1), Byte(b'Z')),
-        (write(2, LAST_BYTE), Fails(InvalidParam), Nothing),
-        (write(0, LAST_BYTE + 1), Gives(0), Nothing),
-        (write(1, LAST_BYTE + 1), Fails(InvalidParam), Nothing),
-        (write(1, RAM), Gives(1), Byte(0x97)),
-        (write(2, RAM - 1), Fails(InvalidParam), Nothing),
-        (
-            console_call(0, [1, TEXT_PLACE, 1]),
-            Fails(InvalidParam),
-            Nothing,
-        ),
-        (
-            console_call(0, [0, TEXT_PLACE, 1]),
-            Fails(InvalidParam),
-            Nothing,
-        ),
-    ];
-    all_print(&rt, rt.alloc(), &rows)
+    all_print(&rt, rt.alloc(), &WRITES)
 }
 
 /// Translates by page tables, and prints a byte from its page 1.
@@ -182,16 +106,7 @@ fn bytes_have_physical_addresses(rt: HostRuntime) -> Result<(), Fail> {
 
 #[test]
 fn bytes_of_registers_are_printed(rt: HostRuntime) -> Result<(), Fail> {
-    let rows = [
-        (write_byte(0x41), Gives(0), Byte(b'A')),
-        (write_byte(0x141), Gives(0), Byte(b'A')),
-        (write_byte(0xffff_ffff_ffff_ff00), Gives(0), Byte(0)),
-        (write_byte(0xff), Gives(0), Byte(0xff)),
-        (put(0x42), LegacyGives, Byte(b'B')),
-        (put(0x142), LegacyGives, Byte(b'B')),
-        (put(0xffff_ffff_ffff_ffff), LegacyGives, Byte(0xff)),
-    ];
-    all_print(&rt, rt.alloc(), &rows)
+    all_print(&rt, rt.alloc(), &BYTE_WRITES)
 }
 
 /// Prints 256 bytes of the text, 4096 times.
@@ -252,7 +167,7 @@ fn runs_full(
 ) -> Result<PlainMachine, Fail>
     ensures { IfOk result (λ machine. machine.shared.layout.harts ≡ 1) }
 {
-    let text_words = text_words(alloc)?;
+    let text_words = halves_of(alloc, &TEXT)?;
     let segments = [(RAM, words), (text, text_words.as_slice())];
     let mut machine = machine_with(alloc, 1, FAR, &segments)?;
     assert_eq!(rt; turn_times(&mut machine, 0, turns.saturating_sub(1)), None);
@@ -264,10 +179,9 @@ fn runs_full(
 
 /// The console that has taken these bytes, and then the text's first 256 until it was full.
 fn full_console(alloc: Global, first: &[u8]) -> Result<Vec<u8>, AllocError> {
-    let text = text_bytes(alloc)?;
     let mut bytes = first.to_vec(alloc)?;
     for _ in 0..4096 {
-        for byte in text.iter().take(256) {
+        for byte in TEXT_BYTES.iter().take(256) {
             bytes.push(*byte)?;
         }
     }

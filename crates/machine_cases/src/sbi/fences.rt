@@ -1,112 +1,40 @@
 // Remote fences and the masks of harts, and translations that another hart changes.
 ghost use Rattle.std.specs.Prelude.{◌<◌};
 
-use super::Error::{InvalidAddress, InvalidParam};
-use super::Want::{Fails, Gives, Stops};
-use super::calls::{Row, UPPER, rows_answer};
-use super::{ALL, Call, FAR, IPI, RFENCE, STOP, Want, go_on, play, start};
+use super::calls::rows_answer;
+use super::{FAR, go_on, play};
 use crate::supervisor::machine_of;
 use ref_machine::PlainMachine;
+use sbi_rows::Error::{InvalidAddress, InvalidParam};
+use sbi_rows::Want::{Fails, Gives};
+use sbi_rows::{
+    CallRow, FENCE_ROWS, FENCES_OF_STOPPED, IPI, MASKS, MASKS_OF_EIGHT, MASKS_OF_FOUR,
+    MASKS_OF_ONE, MASKS_OF_TWO, MaskRow, Named, RANGES, RFENCE, Reach, Want,
+};
 use std::alloc::{AllocError, Global};
 use std::process::Abort;
 use std::test::Fail;
 
-/// A mask of harts and its base, and whether all that they name are there.
-type MaskRow = (u64, u64, Want);
+/// What an interrupt or a fence of these harts comes to.
+pub(super) fn named_want(named: Named) -> Want {
+    match named {
+        Named::Harts(_) | Named::All => Gives(0),
+        Named::Missing => Fails(InvalidParam),
+    }
+}
 
-const MASKS: [MaskRow; 21] = [
-    (0, 0, Gives(0)),
-    (1, 0, Gives(0)),
-    (0, 1, Gives(0)),
-    (0, 9, Gives(0)),
-    (0, ALL - 1, Gives(0)),
-    // all harts, whatever the mask
-    (0, ALL, Gives(0)),
-    (1, ALL, Gives(0)),
-    (2, ALL, Gives(0)),
-    (ALL, ALL, Gives(0)),
-    (0x10, 0, Fails(InvalidParam)),
-    (0x11, 0, Fails(InvalidParam)),
-    (0x100, 0, Fails(InvalidParam)),
-    (UPPER, 0, Fails(InvalidParam)),
-    (1 << 63, 0, Fails(InvalidParam)),
-    (ALL, 0, Fails(InvalidParam)),
-    (1, 9, Fails(InvalidParam)),
-    (1, 0x100, Fails(InvalidParam)),
-    (1, UPPER, Fails(InvalidParam)),
-    // 2^64 - 1, 2^64 and 2^64 + 1
-    (2, ALL - 1, Fails(InvalidParam)),
-    (4, ALL - 1, Fails(InvalidParam)),
-    (8, ALL - 1, Fails(InvalidParam)),
-];
+/// What a fence of this range comes to, wherever it reaches.
+fn reach_want(reach: Reach) -> Want {
+    match reach {
+        Reach::Pages(_, _) | Reach::Everything => Gives(0),
+        Reach::Beyond => Fails(InvalidAddress),
+    }
+}
 
-const MASKS_OF_ONE: [MaskRow; 4] = [
-    (2, 0, Fails(InvalidParam)),
-    (3, 0, Fails(InvalidParam)),
-    (1, 1, Fails(InvalidParam)),
-    (8, 0, Fails(InvalidParam)),
-];
-
-const MASKS_OF_FOUR: [MaskRow; 9] = [
-    (2, 0, Gives(0)),
-    (8, 0, Gives(0)),
-    (0xf, 0, Gives(0)),
-    (1, 1, Gives(0)),
-    (1, 3, Gives(0)),
-    (7, 1, Gives(0)),
-    (2, 3, Fails(InvalidParam)),
-    (1, 4, Fails(InvalidParam)),
-    (0xf, 1, Fails(InvalidParam)),
-];
-
-const MASKS_OF_EIGHT: [MaskRow; 6] = [
-    (0x80, 0, Gives(0)),
-    (0xff, 0, Gives(0)),
-    (1, 7, Gives(0)),
-    (2, 7, Fails(InvalidParam)),
-    (1, 8, Fails(InvalidParam)),
-    (0x180, 0, Fails(InvalidParam)),
-];
-
-/// A range's start and size, and whether it ends in the 2^64 bytes that there are.
-const RANGES: [(u64, u64, Want); 19] = [
-    (0, 0, Gives(0)),
-    (0, 1, Gives(0)),
-    (0, 0x1000, Gives(0)),
-    (0x1000, 0, Gives(0)),
-    (0xfff, 2, Gives(0)),
-    (0x1000, 0x4_0000, Gives(0)),
-    (0x1000, 0x4_0001, Gives(0)),
-    (0, ALL - 1, Gives(0)),
-    (2, ALL - 1, Gives(0)),
-    (3, ALL - 1, Fails(InvalidAddress)),
-    (1 << 63, 1 << 63, Gives(0)),
-    (1 << 63, (1 << 63) + 1, Fails(InvalidAddress)),
-    (ALL - 0xfff, 0x1000, Gives(0)),
-    (ALL - 0xfff, 0x1001, Fails(InvalidAddress)),
-    // one page, one byte and one more
-    (ALL, 0, Gives(0)),
-    (ALL, 1, Gives(0)),
-    (ALL, 2, Fails(InvalidAddress)),
-    // everything, from wherever
-    (1, ALL, Gives(0)),
-    (ALL, ALL, Gives(0)),
-];
-
-/// Of both errors the mask's comes first; where no hart is named the range has its error all the same.
-const FENCE_ROWS: [Row; 6] = [
-    (0, [1, 0, ALL, 2], Gives(0)),
-    (1, [0, 0, ALL, 2], Fails(InvalidAddress)),
-    (1, [0, ALL, ALL, 2], Fails(InvalidAddress)),
-    (1, [1, 9, ALL, 2], Fails(InvalidParam)),
-    (2, [1, 9, ALL, 2], Fails(InvalidParam)),
-    (2, [0, 9, ALL, 2], Fails(InvalidAddress)),
-];
-
-fn mask_rows(alloc: Global, function: u64, masks: &[MaskRow]) -> Result<Vec<Row>, AllocError> {
+fn mask_rows(alloc: Global, function: u64, masks: &[MaskRow]) -> Result<Vec<CallRow>, AllocError> {
     let mut rows = Vec::new(alloc);
-    for (mask, base, want) in masks {
-        rows.push((function, [*mask, *base, 0, 0], *want))?;
+    for (mask, base, named) in masks {
+        rows.push((function, [*mask, *base, 0, 0], named_want(*named)))?;
     }
     Ok(rows)
 }
@@ -117,9 +45,12 @@ fn masks_name_harts(rt: HostRuntime) -> Result<(), Fail> {
     for (extension, function) in [(IPI, 0), (RFENCE, 0), (RFENCE, 1), (RFENCE, 2)] {
         let rows = mask_rows(alloc, function, &MASKS)?;
         rows_answer(&rt, alloc, 1, extension, &rows)?;
+        rows_answer(&rt, alloc, 2, extension, &rows)?;
         rows_answer(&rt, alloc, 4, extension, &rows)?;
         let rows = mask_rows(alloc, function, &MASKS_OF_ONE)?;
         rows_answer(&rt, alloc, 1, extension, &rows)?;
+        let rows = mask_rows(alloc, function, &MASKS_OF_TWO)?;
+        rows_answer(&rt, alloc, 2, extension, &rows)?;
         let rows = mask_rows(alloc, function, &MASKS_OF_FOUR)?;
         rows_answer(&rt, alloc, 4, extension, &rows)?;
         let rows = mask_rows(alloc, function, &MASKS_OF_EIGHT)?;
@@ -133,8 +64,8 @@ fn ranges_end_in_memory(rt: HostRuntime) -> Result<(), Fail> {
     let alloc = rt.alloc();
     let mut rows = Vec::new(alloc);
     for function in [1, 2] {
-        for (start, size, want) in RANGES {
-            rows.push((function, [1, 0, start, size], want))?;
+        for (start, size, reach) in RANGES {
+            rows.push((function, [1, 0, start, size], reach_want(reach)))?;
         }
     }
     for row in FENCE_ROWS {
@@ -144,32 +75,10 @@ fn ranges_end_in_memory(rt: HostRuntime) -> Result<(), Fail> {
     rows_answer(&rt, alloc, 4, RFENCE, &rows)
 }
 
-fn fence(mask: u64, base: u64) -> Call {
-    Call {
-        extension: RFENCE,
-        function: 1,
-        args: [mask, base, 0, 0],
-    }
-}
-
 // A stopped hart is there: a fence names it as any other.
 #[test]
 fn fences_name_stopped_harts(rt: HostRuntime) -> Result<(), Fail> {
-    let steps = [
-        (0, fence(8, 0), Gives(0)),
-        (0, start(3), Gives(0)),
-        (0, fence(8, 0), Gives(0)),
-        (3, fence(1, 0), Gives(0)),
-        (3, fence(8, 0), Gives(0)),
-        (0, fence(9, 0), Gives(0)),
-        (3, STOP, Stops),
-        (0, fence(8, 0), Gives(0)),
-        (0, fence(1, 9), Fails(InvalidParam)),
-        (0, fence(0, ALL), Gives(0)),
-        (0, fence(0xf, 0), Gives(0)),
-        (0, fence(1, 3), Gives(0)),
-    ];
-    let machine = play(&rt, rt.alloc(), 4, FAR, &steps)?;
+    let machine = play(&rt, rt.alloc(), 4, FAR, &FENCES_OF_STOPPED)?;
     // 10 instructions to its first call, and 12 to each of the others
     assert_eq!(rt; machine.count(3), 34);
     assert_eq!(rt; machine.arch(3).pc, 0x8000_002c);

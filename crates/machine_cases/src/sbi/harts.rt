@@ -2,15 +2,15 @@
 // Extension").
 ghost use Rattle.std.specs.Prelude.{◌≡◌, ◌<◌};
 
-use super::Error::{AlreadyAvailable, InvalidAddress, InvalidParam};
-use super::Want::{Ends, Fails, Gives, Stops};
-use super::{
-    ASK, BEGIN, FAR, FIRST_CALL, STOP, VERSION, Want, csrs_of, go_on, play, plays, start, start_at,
-    start_from, status, turn_times,
-};
+use super::{FAR, FIRST_CALL, csrs_of, go_on, play, plays, turn_times};
 use crate::supervisor::machine_of;
-use case_guests::RAM;
 use ref_machine::{PlainMachine, Reason};
+use sbi_rows::Want::Gives;
+use sbi_rows::{
+    BEGINS, BOTH_RUN, FIRST_STARTED_AGAIN, FIRST_STOPS_FIRST, LAST_STOPS_AT_LIMIT, LONE_STOP,
+    NEVER_BEGUN, PENDING_AT_LIMIT, PENDING_AT_STOP, RUNNING_AT_LIMIT, SECOND_STOPS,
+    SECOND_STOPS_FIRST, START, STARTED, STATES, STOPS_IN_NO_ORDER,
+};
 use std::process::Abort;
 use std::test::Fail;
 
@@ -24,112 +24,42 @@ fn compare(rt: &impl Abort, machine: &PlainMachine, hart: u8, pc: u64, count: u6
 
 #[test]
 fn harts_go_through_their_states(rt: HostRuntime) -> Result<(), Fail> {
-    let steps = [
-        (0, status(0), Gives(0)),
-        (0, status(1), Gives(1)),
-        (0, start_at(0, BEGIN, 0), Fails(AlreadyAvailable)),
-        (0, start_at(9, BEGIN, 0), Fails(InvalidParam)),
-        (0, start_at(1, BEGIN + 2, 0), Fails(InvalidAddress)),
-        (0, start_at(1, 0x7fff_fffc, 0), Fails(InvalidAddress)),
-        (0, start_at(1, 0x8040_0000, 0), Fails(InvalidAddress)),
-        (0, status(1), Gives(1)),
-        (0, start(1), Gives(0)),
-        (0, status(1), Gives(2)),
-        // what is refused leaves the start that is pending
-        (0, start_at(1, RAM, 7), Fails(AlreadyAvailable)),
-        (0, start_at(1, BEGIN + 2, 0), Fails(InvalidAddress)),
-        (0, status(1), Gives(2)),
-        (1, status(1), Gives(0)),
-        (0, status(1), Gives(0)),
-        (0, start(1), Fails(AlreadyAvailable)),
-        (1, start(1), Fails(AlreadyAvailable)),
-        (1, start(0), Fails(AlreadyAvailable)),
-        (1, STOP, Stops),
-        (0, status(1), Gives(1)),
-        (0, start_from(1, 4), Gives(0)),
-        (0, status(1), Gives(2)),
-        (1, status(0), Gives(0)),
-        (0, status(1), Gives(0)),
-    ];
-    plays(&rt, rt.alloc(), 2, FAR, &steps)
+    plays(&rt, rt.alloc(), 2, FAR, &STATES)
 }
 
 // Hart 0 is as any other: another starts it again.
 #[test]
 fn the_first_hart_stops_and_starts(rt: HostRuntime) -> Result<(), Fail> {
-    let steps = [
-        (0, start(1), Gives(0)),
-        (0, STOP, Stops),
-        (1, status(0), Gives(1)),
-        (1, start_from(0, 2), Gives(0)),
-        (1, status(0), Gives(2)),
-        (1, STOP, Stops),
-        (0, status(1), Gives(1)),
-        (0, status(0), Gives(0)),
-        (0, STOP, Ends(Reason::AllStopped)),
-    ];
-    let machine = play(&rt, rt.alloc(), 2, FAR, &steps)?;
+    let machine = play(&rt, rt.alloc(), 2, FAR, &FIRST_STARTED_AGAIN)?;
     // 11 to its first call, 12 to each of the others, but 10 to the first of its second life
     compare(&rt, &machine, 0, 0x8000_002c, 11 + 12 + 10 + 12 + 12);
     compare(&rt, &machine, 1, 0x8000_002c, 10 + 12 + 12 + 12);
     Ok(())
 }
 
-const ALL_STOPPED: Want = Ends(Reason::AllStopped);
-
 #[test]
 fn a_lone_hart_ends_the_machine(rt: HostRuntime) -> Result<(), Fail> {
-    let steps = [(0, STOP, ALL_STOPPED)];
-    let mut machine = play(&rt, rt.alloc(), 1, FAR, &steps)?;
+    let mut machine = play(&rt, rt.alloc(), 1, FAR, &LONE_STOP)?;
     assert_eq!(rt; turn_times(&mut machine, 0, 3), Some(Reason::AllStopped));
     compare(&rt, &machine, 0, 0x8000_002c, FIRST_CALL);
     // harts that were never started are stopped
-    plays(&rt, rt.alloc(), 8, FAR, &steps)
+    plays(&rt, rt.alloc(), 8, FAR, &LONE_STOP)
 }
 
 #[test]
 fn the_last_to_stop_ends_the_machine(rt: HostRuntime) -> Result<(), Fail> {
-    let first_then_second = [
-        (0, start(1), Gives(0)),
-        (1, ASK, Gives(VERSION)),
-        (0, STOP, Stops),
-        (1, ASK, Gives(VERSION)),
-        (1, STOP, ALL_STOPPED),
-    ];
-    plays(&rt, rt.alloc(), 2, FAR, &first_then_second)?;
-    let second_then_first = [
-        (0, start(1), Gives(0)),
-        (1, STOP, Stops),
-        (0, ASK, Gives(VERSION)),
-        (0, STOP, ALL_STOPPED),
-    ];
-    plays(&rt, rt.alloc(), 2, FAR, &second_then_first)
+    plays(&rt, rt.alloc(), 2, FAR, &FIRST_STOPS_FIRST)?;
+    plays(&rt, rt.alloc(), 2, FAR, &SECOND_STOPS_FIRST)
 }
 
 #[test]
 fn harts_stop_in_no_order(rt: HostRuntime) -> Result<(), Fail> {
-    let steps = [
-        (0, start(3), Gives(0)),
-        (3, start(1), Gives(0)),
-        (1, start(2), Gives(0)),
-        (2, ASK, Gives(VERSION)),
-        (1, STOP, Stops),
-        (3, STOP, Stops),
-        (0, STOP, Stops),
-        (2, STOP, ALL_STOPPED),
-    ];
-    plays(&rt, rt.alloc(), 4, FAR, &steps)
+    plays(&rt, rt.alloc(), 4, FAR, &STOPS_IN_NO_ORDER)
 }
 
 #[test]
 fn a_pending_hart_keeps_the_machine(rt: HostRuntime) -> Result<(), Fail> {
-    let steps = [
-        (0, start(1), Gives(0)),
-        (0, STOP, Stops),
-        (1, ASK, Gives(VERSION)),
-        (1, STOP, Ends(Reason::AllStopped)),
-    ];
-    let mut machine = play(&rt, rt.alloc(), 2, FAR, &steps)?;
+    let mut machine = play(&rt, rt.alloc(), 2, FAR, &PENDING_AT_STOP)?;
     let answers = [machine.turn(0), machine.turn(1)];
     assert_eq!(rt; answers, [Some(Reason::AllStopped); 2]);
     compare(&rt, &machine, 0, 0x8000_002c, 23);
@@ -139,8 +69,7 @@ fn a_pending_hart_keeps_the_machine(rt: HostRuntime) -> Result<(), Fail> {
 
 #[test]
 fn harts_that_never_began_stand_still(rt: HostRuntime) -> Result<(), Fail> {
-    let steps = [(0, status(1), Gives(1))];
-    let mut machine = play(&rt, rt.alloc(), 2, FAR, &steps)?;
+    let mut machine = play(&rt, rt.alloc(), 2, FAR, &NEVER_BEGUN)?;
     go_on(&rt, &mut machine, 1, 5);
     compare(&rt, &machine, 1, 0, 0);
     compare(&rt, &machine, 0, 0x8000_002c, FIRST_CALL);
@@ -149,12 +78,7 @@ fn harts_that_never_began_stand_still(rt: HostRuntime) -> Result<(), Fail> {
 
 #[test]
 fn stopped_harts_stand_still(rt: HostRuntime) -> Result<(), Fail> {
-    let steps = [
-        (0, start(1), Gives(0)),
-        (1, ASK, Gives(VERSION)),
-        (1, STOP, Stops),
-    ];
-    let mut machine = play(&rt, rt.alloc(), 2, FAR, &steps)?;
+    let mut machine = play(&rt, rt.alloc(), 2, FAR, &SECOND_STOPS)?;
     let x = machine.arch(1).x;
     go_on(&rt, &mut machine, 1, 5);
     compare(&rt, &machine, 1, 0x8000_002c, 22);
@@ -167,14 +91,14 @@ fn stopped_harts_stand_still(rt: HostRuntime) -> Result<(), Fail> {
 // A start is pending until the hart's next turn, which does nothing but begin.
 #[test]
 fn harts_begin_with_two_registers(rt: HostRuntime) -> Result<(), Fail> {
-    let opaque = 0x0123_4567_89ab_cdef;
-    for address in [BEGIN, RAM, 0x803f_fffc] {
-        let steps = [(0, start_at(3, address, opaque), Gives(0))];
-        let mut machine = play(&rt, rt.alloc(), 4, FAR, &steps)?;
-        assert_eq!(rt; machine.count(3), 0);
-        go_on(&rt, &mut machine, 3, 1);
-        compare_begin(&rt, &machine, 3, opaque);
-        compare(&rt, &machine, 3, address, 0);
+    for (hart, address, opaque) in BEGINS {
+        let rows = [(0, START, [u64::from(hart), address, opaque, 0], Gives(0))];
+        let mut machine = play(&rt, rt.alloc(), 4, FAR, &rows)?;
+        assert!(rt; hart < 4, "a hart that there is");
+        assert_eq!(rt; machine.count(hart), 0);
+        go_on(&rt, &mut machine, hart, 1);
+        compare_begin(&rt, &machine, hart, opaque);
+        compare(&rt, &machine, hart, address, 0);
         compare(&rt, &machine, 0, 0x8000_002c, FIRST_CALL);
     }
     Ok(())
@@ -285,8 +209,7 @@ fn a_second_life_has_nothing_of_the_first(rt: HostRuntime) -> Result<(), Fail> {
 
 #[test]
 fn each_hart_has_its_own_limit(rt: HostRuntime) -> Result<(), Fail> {
-    let steps = [(0, start(1), Gives(0)), (1, ASK, Gives(VERSION))];
-    let mut machine = play(&rt, rt.alloc(), 2, 12, &steps)?;
+    let mut machine = play(&rt, rt.alloc(), 2, 12, &BOTH_RUN)?;
     // hart 0 has taken 11 instructions, and hart 1 10
     assert_eq!(rt; machine.turn(1), None);
     assert_eq!(rt; machine.turn(1), Some(Reason::Limit(1)));
@@ -301,8 +224,7 @@ fn each_hart_has_its_own_limit(rt: HostRuntime) -> Result<(), Fail> {
 // Behind the end nothing changes: no pending start begins.
 #[test]
 fn a_pending_hart_is_kept_at_the_end(rt: HostRuntime) -> Result<(), Fail> {
-    let steps = [(0, start(1), Gives(0))];
-    let mut machine = play(&rt, rt.alloc(), 2, 12, &steps)?;
+    let mut machine = play(&rt, rt.alloc(), 2, 12, &STARTED)?;
     assert_eq!(rt; machine.turn(0), Some(Reason::Limit(0)));
     assert_eq!(rt; turn_times(&mut machine, 1, 4), Some(Reason::Limit(0)));
     compare(&rt, &machine, 1, 0, 0);
@@ -313,28 +235,9 @@ fn a_pending_hart_is_kept_at_the_end(rt: HostRuntime) -> Result<(), Fail> {
 #[test]
 fn a_stop_of_all_comes_before_the_limit(rt: HostRuntime) -> Result<(), Fail> {
     let alloc = rt.alloc();
-    plays(
-        &rt,
-        alloc,
-        1,
-        FIRST_CALL,
-        &[(0, STOP, Ends(Reason::AllStopped))],
-    )?;
-    plays(
-        &rt,
-        alloc,
-        4,
-        FIRST_CALL,
-        &[(0, STOP, Ends(Reason::AllStopped))],
-    )?;
+    plays(&rt, alloc, 1, FIRST_CALL, &LAST_STOPS_AT_LIMIT)?;
+    plays(&rt, alloc, 4, FIRST_CALL, &LAST_STOPS_AT_LIMIT)?;
     // where another hart is pending, or runs, the limit is reached by a hart that stops
-    let steps = [(0, start(1), Gives(0)), (0, STOP, Ends(Reason::Limit(0)))];
-    plays(&rt, alloc, 2, 23, &steps)?;
-    let steps = [
-        (0, start(1), Gives(0)),
-        (1, ASK, Gives(VERSION)),
-        (0, STOP, Ends(Reason::Limit(0))),
-    ];
-    plays(&rt, alloc, 2, 23, &steps)?;
-    Ok(())
+    plays(&rt, alloc, 2, 23, &PENDING_AT_LIMIT)?;
+    plays(&rt, alloc, 2, 23, &RUNNING_AT_LIMIT)
 }

@@ -2,11 +2,11 @@
 // and sie) Registers").
 ghost use Rattle.std.specs.Prelude.{◌≡◌, ◌<◌};
 
-use super::Error::InvalidParam;
-use super::Want::{Fails, Gives, Stops};
-use super::{ALL, ASK, FAR, STOP, VERSION, Want, go_on, machine_with, play, send, start};
+use super::fences::named_want;
+use super::{FAR, go_on, machine_with, play};
 use case_guests::RAM;
 use ref_machine::PlainMachine;
+use sbi_rows::{ALL_RUN, INTERRUPTS_OF_FOUR, MaskRow, Named, SEND, SENT};
 use std::alloc::Global;
 use std::process::Abort;
 use std::test::Fail;
@@ -116,54 +116,41 @@ fn read_sip(machine: &mut PlainMachine, hart: u8) -> u64
     machine.arch(hart).x[9]
 }
 
+/// What each of four harts finds in its sip, where only these were sent an interrupt.
+fn sips_of(named: Named) -> [u64; 4] {
+    let harts = match named {
+        Named::Harts(harts) => harts,
+        Named::All => 0xf,
+        Named::Missing => 0,
+    };
+    [
+        2 * (harts % 2),
+        2 * (harts / 2 % 2),
+        2 * (harts / 4 % 2),
+        2 * (harts / 8 % 2),
+    ]
+}
+
 /// Hart 0 of four that run sends by a mask and a base; each hart's sip is then as wanted.
-fn all_sips_become(
-    rt: &impl Abort,
-    alloc: Global,
-    mask: u64,
-    base: u64,
-    want: Want,
-    sips: [u64; 4],
-) -> Result<(), Fail> {
-    let steps = [
-        (0, start(1), Gives(0)),
-        (0, start(2), Gives(0)),
-        (0, start(3), Gives(0)),
-        (1, ASK, Gives(VERSION)),
-        (2, ASK, Gives(VERSION)),
-        (3, ASK, Gives(VERSION)),
-        (0, send(mask, base), want),
-    ];
-    let mut machine = play(rt, alloc, 4, FAR, &steps)?;
+fn all_sips_become(rt: &impl Abort, alloc: Global, row: MaskRow) -> Result<(), Fail> {
+    let (mask, base, named) = row;
+    let mut rows = ALL_RUN.to_vec(alloc)?;
+    rows.push((0, SEND, [mask, base, 0, 0], named_want(named)))?;
+    let mut machine = play(rt, alloc, 4, FAR, &rows)?;
     let found = [
         read_sip(&mut machine, 0),
         read_sip(&mut machine, 1),
         read_sip(&mut machine, 2),
         read_sip(&mut machine, 3),
     ];
-    assert_eq!(rt; found, sips, "mask {mask}, base {base}");
+    assert_eq!(rt; found, sips_of(named), "mask {mask}, base {base}");
     Ok(())
 }
 
 #[test]
 fn masks_choose_whom_to_interrupt(rt: HostRuntime) -> Result<(), Fail> {
-    for (mask, base, want, sips) in [
-        (1, 0, Gives(0), [2, 0, 0, 0]),
-        (2, 0, Gives(0), [0, 2, 0, 0]),
-        (1, 2, Gives(0), [0, 0, 2, 0]),
-        (5, 1, Gives(0), [0, 2, 0, 2]),
-        (0xf, 0, Gives(0), [2, 2, 2, 2]),
-        (0, 0, Gives(0), [0, 0, 0, 0]),
-        (0, 9, Gives(0), [0, 0, 0, 0]),
-        (0, ALL, Gives(0), [2, 2, 2, 2]),
-        (4, ALL, Gives(0), [2, 2, 2, 2]),
-        (ALL, ALL, Gives(0), [2, 2, 2, 2]),
-        // one hart is not there, so nothing is done
-        (0x13, 0, Fails(InvalidParam), [0, 0, 0, 0]),
-        (3, 3, Fails(InvalidParam), [0, 0, 0, 0]),
-        (7, ALL - 1, Fails(InvalidParam), [0, 0, 0, 0]),
-    ] {
-        all_sips_become(&rt, rt.alloc(), mask, base, want, sips)?;
+    for row in INTERRUPTS_OF_FOUR {
+        all_sips_become(&rt, rt.alloc(), row)?;
     }
     Ok(())
 }
@@ -171,16 +158,7 @@ fn masks_choose_whom_to_interrupt(rt: HostRuntime) -> Result<(), Fail> {
 // One sent to a hart that has not begun, or is stopped, is a success too.
 #[test]
 fn interrupts_are_sent_to_any_hart(rt: HostRuntime) -> Result<(), Fail> {
-    let steps = [
-        (0, send(2, 0), Gives(0)),
-        (0, start(1), Gives(0)),
-        (0, send(2, 0), Gives(0)),
-        (1, ASK, Gives(VERSION)),
-        (1, STOP, Stops),
-        (0, send(1, 1), Gives(0)),
-        (0, send(0, ALL), Gives(0)),
-    ];
-    let mut machine = play(&rt, rt.alloc(), 2, FAR, &steps)?;
+    let mut machine = play(&rt, rt.alloc(), 2, FAR, &SENT)?;
     assert_eq!(rt; read_sip(&mut machine, 0), 2);
     assert_eq!(rt; machine.arch(1).pc, 0x8000_002c);
     Ok(())
