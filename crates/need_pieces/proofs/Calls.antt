@@ -1,0 +1,232 @@
+-- Calls in their hart's log, whatever they ask for.
+use Rattle.std.proofs.Common.{◌≡◌, ◌≢◌, ℕ, ◌<◌, Bool, true, false, not, List, [], ◌∷◌, refl, sym, ap, subst, ◌∙◌, ⊎_elim, arith}
+use Rattle.std.proofs.lemmas.Bool.{cases_eq}
+use Rattle.std.proofs.lemmas.Nat.{le_or_l, pow_pos}
+use Rattle.std.specs.Prelude.{◌^◌, Some}
+use Rattle.step_laws.specs.declared.words.Layout.{Layout}
+use Rattle.rv64_priv.specs.Walk.{PageFault}
+use Rattle.rv64_priv.specs.State.{Arch}
+use Rattle.rv64_priv.specs.Csr.{regime}
+use Rattle.rv64_exec.specs.declared.needs.Answer.{Answer}
+use Rattle.rv64_exec.specs.declared.needs.Need.{Need}
+use Rattle.step_laws.specs.Map.{Word, Stop, Live, Cons, Ipi, Hsm, Start, Opaque, Console, Ram}
+use Rattle.machine_model.specs.declared.reason.Reason.{Reason}
+use Rattle.machine_model.specs.Event.{Exec, only}
+use Rattle.machine_model.specs.Lawful.{flushing_of_call}
+use Rattle.machine_model.specs.Own.{Own, own_executed}
+use Rattle.machine_model.specs.Sbi.{arg, bits_of, named, sbi_of, state_number}
+use Rattle.machine_model.specs.State.{Setup}
+use Rattle.guest_ram.specs.Ports.{Shown, GoesBy, layout_of}
+use Rattle.tlb_entry.specs.declared.books.Book.{Book}
+use Rattle.turn_pieces.specs.Draws.{may_draw}
+use Rattle.turn_pieces.specs.Grows.{Ends, stays}
+use Rattle.turn_pieces.specs.Doing.{IsQuiet}
+use Rattle.turn_pieces.specs.Log.{Log, did}
+use Rattle.turn_pieces.specs.Right.{AreFenced}
+use Rattle.turn_pieces.proofs.Unmarked.{is_other}
+use Rattle.access_pieces.specs.Serving.{MayGiveUp, Rests, Settles, Tells, Wants}
+use Rattle.hart_calls.specs.declared.asking.Asked.{Asked}
+use Rattle.hart_calls.specs.declared.outcomes.SbiEnd.{SbiEnd}
+use Rattle.hart_calls.specs.declared.spans.Span.{Span}
+use Rattle.hart_calls.specs.Asked.{IsAsked}
+use Rattle.hart_calls.specs.Called.{HasDone, HasNamed, HasWritten, IsOfHartCalls, all_put, fills, found_full, is_own, needs_section, no_byte, none_named, put, refused, some_named, started, stopped, stopped_last}
+use Rattle.hart_calls.specs.Ends.{runs_on, succeeds}
+use Rattle.hart_calls.specs.Spans.{flush_of}
+use Rattle.hart_calls.specs.States.{IsRunner, mode_found}
+use Rattle.call_laws.specs.Did.{answer_of, did_call, did_writing}
+use Rattle.call_pieces.specs.Idle.{Idles}
+use Rattle.call_pieces.specs.Laws.{IsServed}
+use Rattle.call_pieces.proofs.Placing.{did_is, flush_as, rested}
+use Rattle.call_pieces.proofs.Printed.{bytes_served}
+use Rattle.call_pieces.proofs.Served.{calls_served, own_starts_served}
+use Rattle.need_serving.specs.declared.ends.NeedEnd.{NeedEnd}
+use Rattle.need_serving.specs.Ends.{end_of_call}
+use Rattle.need_pieces.specs.Serving.{IsKnownCall, IsKnownWriting, IsServedIn}
+use Rattle.need_pieces.specs.Laws.{IsNoFence}
+use Rattle.need_pieces.proofs.Alone.{exec_fit}
+use Rattle.need_pieces.proofs.Executed.{answer_is, executed_by, stops_is}
+use Rattle.need_pieces.proofs.Unwaited.{unwaited_goes}
+
+calls_unmarked : (w : Word) → IsOfHartCalls w → is_other w ≡ true
+calls_unmarked Stop t = refl
+calls_unmarked Live t = refl
+calls_unmarked Cons t = refl
+calls_unmarked Ipi t = refl
+calls_unmarked (Hsm h) t = refl
+calls_unmarked (Start h) t = refl
+calls_unmarked (Opaque h) t = refl
+calls_unmarked (Console i) t = refl
+calls_unmarked (Ram i) t = refl
+calls_unmarked w t = absurd t
+
+-- it is still to be made in the section, or waits for a fence
+abbrev pub IsMade : SbiEnd → Type 0
+IsMade (SbiEnd.Fence harts span) = ⊥
+IsMade SbiEnd.NeedsSection = ⊥
+IsMade call = Unit {0}
+
+no_bits : (hs : List ℕ) → bits_of hs ≡ 0 → hs ≡ []
+no_bits [] e = refl
+no_bits (h ∷ hs) e = let some = pow_pos h in let less = le_or_l (2 ^ h) (bits_of hs) in absurd (omega (arith, e, some, less))
+
+names_none : (p q : Shown) (harts : ℕ) (span : Span) (call : SbiEnd) → HasNamed p q harts (SbiEnd.Fence harts span) call → IsMade call → harts ≡ 0
+names_none p q harts span call (some_named some) made = absurd made
+names_none p q harts span call (none_named none) made = none
+
+quiet_only : (h : ℕ) (answer : Answer) → IsQuiet (Exec h PageFault PageFault (only answer))
+quiet_only h answer = record { does = record { entry_is = refl; bytes_are = refl; reason_is = refl; starts_is = refl; stops_is = refl }; begins_not = refl }
+
+-- a call that is to be made anew made no step, and so a fence that was asked for
+module _ (p q : Shown) where
+  written_still : (from count : ℕ) (call : SbiEnd) (s : Bool) → HasWritten p q from count call s → call ≡ SbiEnd.NeedsSection → q ≡ p
+  written_still from count call s (no_byte none same) e = same
+  written_still from count call s (needs_section some same) e = same
+  written_still from count call s (all_put finds some x) e = cc
+  written_still from count call s (fills finds mid stands x y) e = cc
+
+  written_waits : (from count : ℕ) (call : SbiEnd) (s : Bool) (mask : ℕ) (over : Span) → HasWritten p q from count call s → call ≡ SbiEnd.Fence mask over → q ≡ p
+  written_waits from count call s mask over (no_byte none same) e = same
+  written_waits from count call s mask over (needs_section some same) e = same
+  written_waits from count call s mask over (all_put finds some x) e = cc
+  written_waits from count call s mask over (fills finds mid stands x y) e = cc
+
+  pub still_there : (section : Bool) (asked : Asked) (call : SbiEnd) → HasDone p q section asked call → call ≡ SbiEnd.NeedsSection → q ≡ p
+  still_there section (Asked.Gives error value) call done e = done.1
+  still_there section (Asked.GivesOne error) call done e = done.1
+  still_there section (Asked.Sends mask) call done e = absurd (not_both done.0 e)
+    where
+      not_both : call ≡ succeeds 0 → call ≡ SbiEnd.NeedsSection → ⊥
+      not_both x y = cc
+  still_there section (Asked.Fences harts span) call done e = done.1
+  still_there section (Asked.Starts target at opaque) call (started other x) e = cc
+  still_there section (Asked.Starts target at opaque) call (refused found other ne x) e = cc
+  still_there section (Asked.Starts target at opaque) call (is_own own same) e = same
+  still_there section (Asked.TellsState target) call done e = absurd (not_both done.0 done.1 e)
+    where
+      not_both : (found : ℕ) → call ≡ succeeds (state_number (mode_found found)) → call ≡ SbiEnd.NeedsSection → ⊥
+      not_both found x y = cc
+  still_there section Asked.Leaves call (stopped left ne x) e = cc
+  still_there section Asked.Leaves call (stopped_last mid stands x y) e = cc
+  still_there section (Asked.Ends reason) call done e = absurd (not_both done.0 e)
+    where
+      not_both : call ≡ SbiEnd.Over reason → call ≡ SbiEnd.NeedsSection → ⊥
+      not_both x y = cc
+  still_there section (Asked.Prints from count) call done e = written_still from count call section done e
+  still_there section (Asked.PrintsByte byte) call (put x) e = cc
+  still_there section (Asked.PrintsByte byte) call (found_full place mid stands x y) e = cc
+  still_there section (Asked.PrintsOne byte) call (put x) e = cc
+  still_there section (Asked.PrintsOne byte) call (found_full place mid stands x y) e = cc
+
+  pub fence_waits : (section : Bool) (asked : Asked) (call : SbiEnd) (mask : ℕ) (over : Span) → HasDone p q section asked call → call ≡ SbiEnd.Fence mask over → q ≡ p
+  fence_waits section (Asked.Gives error value) call mask over done e = done.1
+  fence_waits section (Asked.GivesOne error) call mask over done e = done.1
+  fence_waits section (Asked.Sends m) call mask over done e = absurd (not_both done.0 e)
+    where
+      not_both : call ≡ succeeds 0 → call ≡ SbiEnd.Fence mask over → ⊥
+      not_both x y = cc
+  fence_waits section (Asked.Fences harts span) call mask over done e = done.1
+  fence_waits section (Asked.Starts target at opaque) call mask over (started other x) e = cc
+  fence_waits section (Asked.Starts target at opaque) call mask over (refused found other ne x) e = cc
+  fence_waits section (Asked.Starts target at opaque) call mask over (is_own own same) e = same
+  fence_waits section (Asked.TellsState target) call mask over done e = absurd (not_both done.0 done.1 e)
+    where
+      not_both : (found : ℕ) → call ≡ succeeds (state_number (mode_found found)) → call ≡ SbiEnd.Fence mask over → ⊥
+      not_both found x y = cc
+  fence_waits section Asked.Leaves call mask over (stopped left ne x) e = cc
+  fence_waits section Asked.Leaves call mask over (stopped_last mid stands x y) e = cc
+  fence_waits section (Asked.Ends reason) call mask over done e = absurd (not_both done.0 e)
+    where
+      not_both : call ≡ SbiEnd.Over reason → call ≡ SbiEnd.Fence mask over → ⊥
+      not_both x y = cc
+  fence_waits section (Asked.Prints from count) call mask over done e = written_waits from count call section mask over done e
+  fence_waits section (Asked.PrintsByte byte) call mask over (put x) e = cc
+  fence_waits section (Asked.PrintsByte byte) call mask over (found_full place mid stands x y) e = cc
+  fence_waits section (Asked.PrintsOne byte) call mask over (put x) e = cc
+  fence_waits section (Asked.PrintsOne byte) call mask over (found_full place mid stands x y) e = cc
+
+module _ (others : ℕ → Bool) (o : Own) (p q : Shown) (b : Book) (c : Arch) (section : Bool) (runner : IsRunner p) (may : may_draw p.own.steps ≡ true) (wants : Wants o c Need.Sbi) (goes : GoesBy 769 IsOfHartCalls p q) (u : Setup) (a : ℕ) (l : Log)
+    (x : Rests others o p b (regime c) u a l) where
+  -- no page begins to wait for a store over a call
+  settled_by : (o' : Own) → Ends u a l (Tells o' q b (regime c) u a) → Ends u a l (Settles others o' q b (regime c) u a)
+  settled_by o' e = record {
+    late = e.late;
+    grows = e.grows;
+    holds = record { tells = e.holds; settled = λ page free. unwaited_goes IsOfHartCalls 769 p q u a page l e.late calls_unmarked goes x.tells.tells.stands.is e.holds.tells.stands.is e.grows (x.settled page free) };
+  }
+
+  idles : Idles o p b (regime c) u a l
+  idles = record { tells = x.tells; idle = x.idle }
+
+  told : (asked : Asked) (call : SbiEnd) (done : HasDone p q section asked call) → IsAsked (layout_of p) c asked → IsServed p asked → Ends u a l (Tells (own_executed (did_call p q section asked call done) o) q b (regime c) u a)
+  told asked call done is s = calls_served p q b c section asked call done runner may is s o wants u a l idles
+
+  written : (from count : ℕ) (call : SbiEnd) (s : Bool) (done : HasWritten p q from count call s) → IsAsked (layout_of p) c (Asked.Prints from count) → IsMade call → count ≢ 0 → IsKnownWriting p q from count call s done
+      → Ends u a l (Tells (own_executed (did_writing p q from count call s done) o) q b (regime c) u a)
+  written from count call true done is made some known = bytes_served p q b c from count known.1.0 call done runner may is known.0 known.1.1 o wants u a l idles
+  written from count call false (no_byte none same) is made some known = absurd (some none)
+  written from count call false (needs_section more same) is made some known = absurd made
+
+  -- a hart that names none waits for no fence: the call is done at once
+  unnamed : (harts : ℕ) (span : Span) (call : SbiEnd) (done : HasDone p q section (Asked.Fences harts span) call) → IsAsked (layout_of p) c (Asked.Fences harts span) → IsMade call
+      → Ends u a l (Tells (own_executed (did_call p q section (Asked.Fences harts span) call done) o) q b (regime c) u a)
+  unnamed harts span call done is made =
+      let asked = Asked.Fences harts span in
+      let layout : u.layout ≡ layout_of p = x.tells.tells.stands.layout in
+      let there : a < u.layout.harts = subst (λ n. n < u.layout.harts) (sym x.tells.tells.stands.actor) (subst (λ (y : Layout). p.own.actor < y.harts) (sym layout) runner.hart) in
+      let none : named (layout_of p).harts (arg c 0) (arg c 1) ≡ [] = no_bits (named (layout_of p).harts (arg c 0) (arg c 1)) (is.sound.0 ∙ names_none p q harts span call done.0 made) in
+      let fit = exec_fit o c Need.Sbi (only (answer_of call)) u a l wants refl
+          (λ w m. subst (AreFenced a l) (sym (flush_as w a c ∙ ap (λ y. flushing_of_call (sbi_of y w.modes w.memory c)) (m.layout ∙ layout) ∙ ap flushing_of_call (sym (is.is w.modes w.memory))))
+          (subst (λ hs. AreFenced a l (Some (record { harts = hs; what = flush_of span }))) (sym none) tt))
+          (λ w m. did_is p q c section asked call done is w a PageFault PageFault (m.layout ∙ layout) tt) in
+      let k = rested o b (regime c) (only (answer_of call)) u a p l l (record { grows = stays; tells = x.tells }) x.idle there fit (quiet_only a (answer_of call)) in record {
+        late = did (Exec a PageFault PageFault (only (answer_of call))) ∷ l;
+        grows = k.grows;
+        holds = subst (λ (y : Shown). Tells (own_executed (only (answer_of call)) o) y b (regime c) u a (did (Exec a PageFault PageFault (only (answer_of call))) ∷ l)) (sym done.1) k.tells;
+      }
+
+  call_told : (asked : Asked) (call : SbiEnd) (done : HasDone p q section asked call) → IsAsked (layout_of p) c asked → IsMade call → IsKnownCall p q section asked call done u a l → Ends u a l (Tells (own_executed (did_call p q section asked call done) o) q b (regime c) u a)
+  call_told (Asked.Gives error value) call done is made known = told (Asked.Gives error value) call done is tt
+  call_told (Asked.GivesOne error) call done is made known = told (Asked.GivesOne error) call done is tt
+  call_told (Asked.Sends mask) call done is made known = told (Asked.Sends mask) call done is tt
+  call_told (Asked.Fences harts span) call done is made known = unnamed harts span call done is made
+  call_told (Asked.Starts target at opaque) call done is made known =
+      ⊎_elim (λ (own : target ≡ p.own.actor). own_starts_served p q b c section target at opaque call done runner is own o wants u a l (idles, known own)) (λ ne. told (Asked.Starts target at opaque) call done is ne) (cases_eq target p.own.actor)
+  call_told (Asked.TellsState target) call done is made known = told (Asked.TellsState target) call done is tt
+  call_told Asked.Leaves call done is made known = told Asked.Leaves call done is tt
+  call_told (Asked.Ends reason) call done is made known = told (Asked.Ends reason) call done is tt
+  call_told (Asked.Prints from count) call done is made known =
+      ⊎_elim (λ (none : count ≡ 0). told (Asked.Prints from count) call done is none) (λ some. written from count call section done is made some (known some)) (cases_eq count 0)
+  call_told (Asked.PrintsByte byte) call done is made known = told (Asked.PrintsByte byte) call done is tt
+  call_told (Asked.PrintsOne byte) call done is made known = told (Asked.PrintsOne byte) call done is tt
+
+
+  pub call_served : (asked : Asked) (call : SbiEnd) (end : NeedEnd) (done : HasDone p q section asked call) → IsAsked (layout_of p) c asked → end ≡ end_of_call call → IsNoFence end → IsKnownCall p q section asked call done u a l → Ends u a l (IsServedIn others o end q b (regime c) u a)
+  call_served asked call end done is e no_fence known = by call refl
+    where
+      executed : IsMade call → Ends u a l (Settles others (own_executed (record (only (answer_of call)) { stops = not (runs_on call) }) o) q b (regime c) u a)
+      executed made = subst (λ (d : Own). Ends u a l (Settles others d q b (regime c) u a))
+          (executed_by (did_call p q section asked call done) o (answer_of call) (not (runs_on call)) (answer_is p q section asked call done) (stops_is p q section c asked call done is))
+          (settled_by (own_executed (did_call p q section asked call done) o) (call_told asked call done is made known))
+
+      made_so : (other : SbiEnd) → call ≡ other → IsMade other → Ends u a l (Settles others (own_executed (record (only (answer_of other)) { stops = not (runs_on other) }) o) q b (regime c) u a)
+      made_so other same made = subst (λ (z : SbiEnd). Ends u a l (Settles others (own_executed (record (only (answer_of z)) { stops = not (runs_on z) }) o) q b (regime c) u a)) same (executed (subst IsMade (sym same) made))
+
+      ends_as : (other : SbiEnd) → call ≡ other → Ends u a l (IsServedIn others o (end_of_call other) q b (regime c) u a) → Ends u a l (IsServedIn others o end q b (regime c) u a)
+      ends_as other same k = subst (λ (z : NeedEnd). Ends u a l (IsServedIn others o z q b (regime c) u a)) (sym (e ∙ ap end_of_call same)) k
+
+      by : (other : SbiEnd) → call ≡ other → Ends u a l (IsServedIn others o end q b (regime c) u a)
+      by (SbiEnd.Pair error value) same = ends_as (SbiEnd.Pair error value) same (made_so (SbiEnd.Pair error value) same tt)
+      by (SbiEnd.Single value) same = ends_as (SbiEnd.Single value) same (made_so (SbiEnd.Single value) same tt)
+      by (SbiEnd.Fence harts span) same = absurd (subst IsNoFence (e ∙ ap end_of_call same) no_fence)
+      by SbiEnd.NeedsSection same = ends_as SbiEnd.NeedsSection same (record {
+        late = l;
+        grows = stays;
+        holds = subst (λ (y : Shown). MayGiveUp others o y b (regime c) u a l) (sym (still_there p q section asked call done same)) (record { tells = x.tells; idle = x.idle; walks = []; shown = tt; settled = λ page free out. x.settled page free });
+      })
+      by SbiEnd.HartStopped same = ends_as SbiEnd.HartStopped same (made_so SbiEnd.HartStopped same tt)
+      by (SbiEnd.Over Reason.Pass) same = ends_as (SbiEnd.Over Reason.Pass) same (made_so (SbiEnd.Over Reason.Pass) same tt)
+      by (SbiEnd.Over (Reason.Fail code)) same = ends_as (SbiEnd.Over (Reason.Fail code)) same (made_so (SbiEnd.Over (Reason.Fail code)) same tt)
+      by (SbiEnd.Over (Reason.Limit hart)) same = ends_as (SbiEnd.Over (Reason.Limit hart)) same (made_so (SbiEnd.Over (Reason.Limit hart)) same tt)
+      by (SbiEnd.Over Reason.OutFull) same = ends_as (SbiEnd.Over Reason.OutFull) same (made_so (SbiEnd.Over Reason.OutFull) same tt)
+      by (SbiEnd.Over Reason.AllStopped) same = ends_as (SbiEnd.Over Reason.AllStopped) same (made_so (SbiEnd.Over Reason.AllStopped) same tt)
+      by (SbiEnd.Over Reason.Stopped) same = ends_as (SbiEnd.Over Reason.Stopped) same (made_so (SbiEnd.Over Reason.Stopped) same tt)

@@ -1,0 +1,6 @@
+mod Executed
+mod Unwaited
+mod Alone
+mod Flushes
+mod Calls
+mod Served

@@ -1,0 +1,4 @@
+pub mod Remaining
+pub mod Kept
+mod Fitting
+mod Answered
