@@ -140,9 +140,9 @@ module _ (others : ℕ → Bool) (o : Own) (p q : Shown) (b : Book) (r : Regime)
       let out = record (only (Answer.Value (sip_value found a))) { entry = ipi_entry op found a } in
       let same : ipi_entry op found a ≡ Some (write_of m.word value ∷ []) = entry ∙ ap (λ n. Some (write_of n value ∷ [])) (sym (ipi_is m.word m.name)) in
       let y = placed o b r out u a p q Ipi wop arg found m (writes m.word value) l l tt first hart may (owed_named l s Ipi wop m.name refl ∙ owes)
-          (ap (λ w. drawn_next w wop found (places l)) m.name ∙ draws ∙ x.tells.tells.none_drawn) (ap (λ w. unstored_next w wop found [] (unstored l)) m.name ∙ stores ∙ x.tells.tells.none_left) (λ bs. refl)
-          (fits op wop arg found m loads wants)
-          (record { does = record { entry_is = same; bytes_are = refl; reason_is = refl; starts_is = refl; stops_is = refl }; begins_not = refl }) in record {
+      (ap (λ w. drawn_next w wop found (places l)) m.name ∙ draws ∙ x.tells.tells.none_drawn) (ap (λ w. unstored_next w wop found [] (unstored l)) m.name ∙ stores ∙ x.tells.tells.none_left) (λ bs. refl)
+      (fits op wop arg found m loads wants)
+      (record { does = record { entry_is = same; bytes_are = refl; reason_is = refl; starts_is = refl; stops_is = refl }; begins_not = refl }) in record {
         late = did (Exec a PageFault PageFault out) ∷ made s ∷ l;
         grows = y.grows;
         holds = record { tells = y.tells; settled = settles out wop arg found m };
@@ -165,7 +165,7 @@ pending_served others o p q b r c IpiOp.Set value u a l x hart wants used =
     let e : sip_value used.0 a ≡ value = ap (sip_value used.0) (sym own) ∙ sym used.2 in
     let s = step_of p.own.actor used.1.word Or mask used.0 in
     let y = changed_served others o p q b r c u a l x hart IpiOp.Set Or mask used.0 (bit_or used.0 mask) used.1 or_no_store wants (ap (λ n. ipi_becomes (bit_or used.0 (2 ^ n))) (sym own)) refl
-        (free u a l x.tells.tells.clear s Ipi Or used.1.name refl tt tt tt) refl refl in
+    (free u a l x.tells.tells.clear s Ipi Or used.1.name refl tt tt tt) refl refl in
     subst (λ (d : Own). Ends u a l (Settles others d q b r u a))
     (executed_by (record (only (Answer.Value (sip_value used.0 a))) { entry = ipi_entry IpiOp.Set used.0 a }) o (Answer.Value value) false (ap Answer.Value e) refl) y
 pending_served others o p q b r c IpiOp.Clear value u a l x hart wants used =
@@ -174,6 +174,6 @@ pending_served others o p q b r c IpiOp.Clear value u a l x hart wants used =
     let e : sip_value used.0 a ≡ value = ap (sip_value used.0) (sym own) ∙ sym used.2 in
     let s = step_of p.own.actor used.1.word And (2 ^ 64 - 1 - mask) used.0 in
     let y = changed_served others o p q b r c u a l x hart IpiOp.Clear And (2 ^ 64 - 1 - mask) used.0 (used.0 - bit_and used.0 mask) used.1 and_no_store wants (ap (λ n. ipi_becomes (used.0 - bit_and used.0 (2 ^ n))) (sym own))
-        (ap (λ n. writes used.1.word n) used.3) (free u a l x.tells.tells.clear s Ipi And used.1.name refl tt tt tt) refl refl in
+    (ap (λ n. writes used.1.word n) used.3) (free u a l x.tells.tells.clear s Ipi And used.1.name refl tt tt tt) refl refl in
     subst (λ (d : Own). Ends u a l (Settles others d q b r u a))
     (executed_by (record (only (Answer.Value (sip_value used.0 a))) { entry = ipi_entry IpiOp.Clear used.0 a }) o (Answer.Value value) false (ap Answer.Value e) refl) y

@@ -175,9 +175,9 @@ module _ (others : ℕ → Bool) (o : Own) (p q : Shown) (b : Book) (c : Arch) (
       let there : a < u.layout.harts = subst (λ n. n < u.layout.harts) (sym x.tells.tells.stands.actor) (subst (λ (y : Layout). p.own.actor < y.harts) (sym layout) runner.hart) in
       let none : named (layout_of p).harts (arg c 0) (arg c 1) ≡ [] = no_bits (named (layout_of p).harts (arg c 0) (arg c 1)) (is.sound.0 ∙ names_none p q harts span call done.0 made) in
       let fit = exec_fit o c Need.Sbi (only (answer_of call)) u a l wants refl
-          (λ w m. subst (AreFenced a l) (sym (flush_as w a c ∙ ap (λ y. flushing_of_call (sbi_of y w.modes w.memory c)) (m.layout ∙ layout) ∙ ap flushing_of_call (sym (is.is w.modes w.memory))))
-          (subst (λ hs. AreFenced a l (Some (record { harts = hs; what = flush_of span }))) (sym none) tt))
-          (λ w m. did_is p q c section asked call done is w a PageFault PageFault (m.layout ∙ layout) tt) in
+      (λ w m. subst (AreFenced a l) (sym (flush_as w a c ∙ ap (λ y. flushing_of_call (sbi_of y w.modes w.memory c)) (m.layout ∙ layout) ∙ ap flushing_of_call (sym (is.is w.modes w.memory))))
+      (subst (λ hs. AreFenced a l (Some (record { harts = hs; what = flush_of span }))) (sym none) tt))
+      (λ w m. did_is p q c section asked call done is w a PageFault PageFault (m.layout ∙ layout) tt) in
       let k = rested o b (regime c) (only (answer_of call)) u a p l l (record { grows = stays; tells = x.tells }) x.idle there fit (quiet_only a (answer_of call)) in record {
         late = did (Exec a PageFault PageFault (only (answer_of call))) ∷ l;
         grows = k.grows;
@@ -198,7 +198,6 @@ module _ (others : ℕ → Bool) (o : Own) (p q : Shown) (b : Book) (c : Arch) (
       ⊎_elim (λ (none : count ≡ 0). told (Asked.Prints from count) call done is none) (λ some. written from count call section done is made some (known some)) (cases_eq count 0)
   call_told (Asked.PrintsByte byte) call done is made known = told (Asked.PrintsByte byte) call done is tt
   call_told (Asked.PrintsOne byte) call done is made known = told (Asked.PrintsOne byte) call done is tt
-
 
   pub call_served : (asked : Asked) (call : SbiEnd) (end : NeedEnd) (done : HasDone p q section asked call) → IsAsked (layout_of p) c asked → end ≡ end_of_call call → IsNoFence end → IsKnownCall p q section asked call done u a l → Ends u a l (IsServedIn others o end q b (regime c) u a)
   call_served asked call end done is e no_fence known = by call refl

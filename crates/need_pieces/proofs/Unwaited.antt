@@ -39,5 +39,5 @@ pub unwaited_goes : (A : Word → Type 0) (n : ℕ) (p q : Shown) (u : Setup) (a
     → Grows u a l late → is_awaited u a page l ≡ false → is_awaited u a page late ≡ false
 unwaited_goes A n p q u a page l late other goes before behind g e =
     let same : added_steps u a l g ≡ goes.added = append_cancel_right (added_steps u a l g) goes.added (steps_of l)
-        (sym (added_are u a l g) ∙ behind ∙ ap (λ (y : Shown). y.own.steps) goes.grown ∙ ap (λ r. goes.added ++ r) (sym before)) in
+    (sym (added_are u a l g) ∙ behind ∙ ap (λ (y : Shown). y.own.steps) goes.grown ∙ ap (λ r. goes.added ++ r) (sym before)) in
     unwaited u a page l g (subst AreOther (sym same) (are_other A p goes.added other goes.allowed)) e
