@@ -14,6 +14,8 @@ use Rattle.step_laws.specs.Discipline.{minus_one}
 use Rattle.step_laws.specs.Words.{console_places}
 use Rattle.step_laws.specs.Map.{Hsm, Live}
 use Rattle.machine_model.specs.Event.{Exec, Outcome, only}
+use Rattle.machine_model.specs.declared.mode.Mode.{Mode}
+use Rattle.machine_model.specs.declared.mode.Mode.TheVariants.{Started}
 use Rattle.machine_model.specs.Own.{Own, own_executed}
 use Rattle.machine_model.specs.Perform.{Surroundings}
 use Rattle.machine_model.specs.State.{Setup, is_halted}
@@ -174,8 +176,14 @@ calls_served p q b c section (Asked.PrintsOne byte) end (found_full place mid st
     (full_placed o b (regime c) u a place stands p mid q x y l l (first o p q b c section asked end done runner is tt wants u a l t) (there o p q b c section asked end done runner is tt wants u a l t) (draws_there o p b (regime c) u a l t may)
     (fits o p q b c section asked end done runner is tt wants u a l t _ (λ w z. no_room u a _ place w z (ap (λ v. drawn_next v (Exchange 0) y.found (places (made (step_of p.own.actor x.draws.word Add 1 place) ∷ l))) y.exchanges.name ∙ one_drawn o p mid b (regime c) u a l t place x.draws) x.beyond)))
 
+started_runs : (m : Mode) → m ≡ Started → is_halted m ≡ false
+started_runs m e = ap is_halted e
+
 pub own_starts_served : OwnStartsAreServed
-own_starts_served p q b c section target at opaque end (started other x) runner is own o wants u a l t = absurd (other own)
-own_starts_served p q b c section target at opaque end (refused found other ne x) runner is own o wants u a l t = absurd (other own)
-own_starts_served p q b c section target at opaque end (is_own same_hart same) runner is own o wants u a l t =
-    still o p q b c section (Asked.Starts target at opaque) end (is_own same_hart same) runner is tt wants u a l t.0 same refl (λ w m. subst (λ n. is_halted (w.modes n) ≡ false) (sym (own ∙ sym t.0.tells.tells.stands.actor)) (t.1 w m))
+own_starts_served p q b c section target at opaque end (started other x) runner is own o runs wants u a l t = absurd (other own)
+own_starts_served p q b c section target at opaque end (refused found other ne x) runner is own o runs wants u a l t = absurd (other own)
+own_starts_served p q b c section target at opaque end (is_own same_hart same) runner is own o runs wants u a l t =
+    let asked = Asked.Starts target at opaque in
+    let lt = there o p q b c section asked end (is_own same_hart same) runner is tt wants u a l t in
+    still o p q b c section asked end (is_own same_hart same) runner is tt wants u a l t same refl
+    (λ w m. subst (λ n. is_halted (w.modes n) ≡ false) (sym (own ∙ sym t.tells.tells.stands.actor)) (started_runs (w.modes a) (m.started lt (ap (λ (y : Own). y.runs) t.tells.tells.stands.part_is ∙ runs))))

@@ -1,17 +1,13 @@
 -- What the steps of a call are to its hart's log.
-use Rattle.std.specs.Prelude.{◌≡◌, ◌≢◌, ℕ, Bool, true, false}
+use Rattle.std.specs.Prelude.{◌≡◌, ◌≢◌, ℕ, Bool, true}
 use Rattle.rv64_priv.specs.State.{Arch}
 use Rattle.rv64_priv.specs.Csr.{regime}
 use Rattle.rv64_exec.specs.declared.needs.Need.{Need}
 use Rattle.machine_model.specs.Own.{Own, own_executed}
-use Rattle.machine_model.specs.Perform.{Surroundings}
-use Rattle.machine_model.specs.State.{Setup, is_halted}
 use Rattle.guest_ram.specs.Ports.{Shown, layout_of}
 use Rattle.tlb_entry.specs.declared.books.Book.{Book}
 use Rattle.turn_pieces.specs.Draws.{may_draw}
 use Rattle.turn_pieces.specs.Grows.{Part}
-use Rattle.turn_pieces.specs.Log.{Log}
-use Rattle.turn_pieces.specs.Right.{MayBe}
 use Rattle.access_pieces.specs.Serving.{Tells, Wants}
 use Rattle.call_pieces.specs.Idle.{Idles}
 use Rattle.hart_calls.specs.declared.asking.Asked.{Asked}
@@ -35,11 +31,8 @@ CallsAreServed = (p q : Shown) (b : Book) (c : Arch) (section : Bool) (asked : A
     → IsRunner p → may_draw p.own.steps ≡ true → IsAsked (layout_of p) c asked → IsServed p asked
     → (o : Own) → Wants o c Need.Sbi → Part (Idles o p b (regime c)) (Tells (own_executed (did_call p q section asked end done) o) q b (regime c))
 
--- so is a start of the own hart, at logs that show that the reference machine has it as running
-abbrev pub HasOwnRunning : Setup → (a : ℕ) → Log → Type 0
-HasOwnRunning u a l = (w : Surroundings) → MayBe u a l w → is_halted (w.modes a) ≡ false
-
+-- so is a start of the own hart, which runs
 abbrev pub OwnStartsAreServed : Type 0
 OwnStartsAreServed = (p q : Shown) (b : Book) (c : Arch) (section : Bool) (target at opaque : ℕ) (end : SbiEnd) (done : HasTried p q target at opaque end)
     → IsRunner p → IsAsked (layout_of p) c (Asked.Starts target at opaque) → target ≡ p.own.actor
-    → (o : Own) → Wants o c Need.Sbi → Part (λ u a l. Idles o p b (regime c) u a l × HasOwnRunning u a l) (Tells (own_executed (did_call p q section (Asked.Starts target at opaque) end done) o) q b (regime c))
+    → (o : Own) → o.runs ≡ true → Wants o c Need.Sbi → Part (Idles o p b (regime c)) (Tells (own_executed (did_call p q section (Asked.Starts target at opaque) end done) o) q b (regime c))

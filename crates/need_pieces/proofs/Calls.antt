@@ -144,7 +144,7 @@ module _ (p q : Shown) where
   fence_waits section (Asked.PrintsOne byte) call mask over (put x) e = cc
   fence_waits section (Asked.PrintsOne byte) call mask over (found_full place mid stands x y) e = cc
 
-module _ (others : ℕ → Bool) (o : Own) (p q : Shown) (b : Book) (c : Arch) (section : Bool) (runner : IsRunner p) (may : may_draw p.own.steps ≡ true) (wants : Wants o c Need.Sbi) (goes : GoesBy 769 IsOfHartCalls p q) (u : Setup) (a : ℕ) (l : Log)
+module _ (others : ℕ → Bool) (o : Own) (p q : Shown) (b : Book) (c : Arch) (section : Bool) (runner : IsRunner p) (may : may_draw p.own.steps ≡ true) (runs : o.runs ≡ true) (wants : Wants o c Need.Sbi) (goes : GoesBy 769 IsOfHartCalls p q) (u : Setup) (a : ℕ) (l : Log)
     (x : Rests others o p b (regime c) u a l) where
   -- no page begins to wait for a store over a call
   settled_by : (o' : Own) → Ends u a l (Tells o' q b (regime c) u a) → Ends u a l (Settles others o' q b (regime c) u a)
@@ -184,13 +184,13 @@ module _ (others : ℕ → Bool) (o : Own) (p q : Shown) (b : Book) (c : Arch) (
         holds = subst (λ (y : Shown). Tells (own_executed (only (answer_of call)) o) y b (regime c) u a (did (Exec a PageFault PageFault (only (answer_of call))) ∷ l)) (sym done.1) k.tells;
       }
 
-  call_told : (asked : Asked) (call : SbiEnd) (done : HasDone p q section asked call) → IsAsked (layout_of p) c asked → IsMade call → IsKnownCall p q section asked call done u a l → Ends u a l (Tells (own_executed (did_call p q section asked call done) o) q b (regime c) u a)
+  call_told : (asked : Asked) (call : SbiEnd) (done : HasDone p q section asked call) → IsAsked (layout_of p) c asked → IsMade call → IsKnownCall p q section asked call done → Ends u a l (Tells (own_executed (did_call p q section asked call done) o) q b (regime c) u a)
   call_told (Asked.Gives error value) call done is made known = told (Asked.Gives error value) call done is tt
   call_told (Asked.GivesOne error) call done is made known = told (Asked.GivesOne error) call done is tt
   call_told (Asked.Sends mask) call done is made known = told (Asked.Sends mask) call done is tt
   call_told (Asked.Fences harts span) call done is made known = unnamed harts span call done is made
   call_told (Asked.Starts target at opaque) call done is made known =
-      ⊎_elim (λ (own : target ≡ p.own.actor). own_starts_served p q b c section target at opaque call done runner is own o wants u a l (idles, known own)) (λ ne. told (Asked.Starts target at opaque) call done is ne) (cases_eq target p.own.actor)
+      ⊎_elim (λ (own : target ≡ p.own.actor). own_starts_served p q b c section target at opaque call done runner is own o runs wants u a l idles) (λ ne. told (Asked.Starts target at opaque) call done is ne) (cases_eq target p.own.actor)
   call_told (Asked.TellsState target) call done is made known = told (Asked.TellsState target) call done is tt
   call_told Asked.Leaves call done is made known = told Asked.Leaves call done is tt
   call_told (Asked.Ends reason) call done is made known = told (Asked.Ends reason) call done is tt
@@ -199,7 +199,7 @@ module _ (others : ℕ → Bool) (o : Own) (p q : Shown) (b : Book) (c : Arch) (
   call_told (Asked.PrintsByte byte) call done is made known = told (Asked.PrintsByte byte) call done is tt
   call_told (Asked.PrintsOne byte) call done is made known = told (Asked.PrintsOne byte) call done is tt
 
-  pub call_served : (asked : Asked) (call : SbiEnd) (end : NeedEnd) (done : HasDone p q section asked call) → IsAsked (layout_of p) c asked → end ≡ end_of_call call → IsNoFence end → IsKnownCall p q section asked call done u a l → Ends u a l (IsServedIn others o end q b (regime c) u a)
+  pub call_served : (asked : Asked) (call : SbiEnd) (end : NeedEnd) (done : HasDone p q section asked call) → IsAsked (layout_of p) c asked → end ≡ end_of_call call → IsNoFence end → IsKnownCall p q section asked call done → Ends u a l (IsServedIn others o end q b (regime c) u a)
   call_served asked call end done is e no_fence known = by call refl
     where
       executed : IsMade call → Ends u a l (Settles others (own_executed (record (only (answer_of call)) { stops = not (runs_on call) }) o) q b (regime c) u a)

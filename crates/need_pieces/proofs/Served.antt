@@ -72,7 +72,7 @@ needs_served p q b b' c section (Need.Flush what) end form value can served no_f
     flush_served others o p q b b' c what end later u a l can.access.beside served after wants may.rests may.not_due (there others o p q b b' c section later can u a l may.rests)
 needs_served p q b b' c section Need.Sbi end form value can served no_fence later same others o wants u a l may known =
     as_before others o p q b b' c section later can u a l may.rests end b' same (subst (λ (z : Book). Ends u a l (IsServedIn others o end q z (regime c) u a)) (sym served.4)
-    (call_served others o p q b c section can.runner can.draws wants served.2 u a l may.rests served.1.0 served.0 end served.1.2 served.1.1 served.3 no_fence known))
+    (call_served others o p q b c section can.runner can.draws may.runs wants served.2 u a l may.rests served.1.0 served.0 end served.1.2 served.1.1 served.3 no_fence known))
 needs_served p q b b' c section (Need.Load va width sign) end form value can served no_fence later same others o wants u a l may known =
     by_access others o p q b b' c section later can u a l may.rests end served.0 served.2 same (loads_serve p q b b' c va width sign section served.0 form can.access can.told served.1 others o wants u a l may.rests)
 needs_served p q b b' c section (Need.Store va width v) end form value can served no_fence later same others o wants u a l may known =

@@ -40,7 +40,7 @@ IsNoFence end = Unit {0}
 abbrev pub NeedsAreServed : Type 0
 NeedsAreServed = (p q : Shown) (b b' : Book) (c : Arch) (section : Bool) (need : Need) (end : NeedEnd) → IsWellFormedNeed need → IsOfRegister need → CanServe p b section
     → (x : HasServed p q b b' c section need end) → IsNoFence end → (later : Regime) → MayHaveAfter need end (regime c) later
-    → (others : ℕ → Bool) (o : Own) → Wants o c need → (u : Setup) (a : ℕ) (l : Log) → MayServe others o p b (regime c) u a l → IsKnown p q b b' c section need end x u a l
+    → (others : ℕ → Bool) (o : Own) → Wants o c need → (u : Setup) (a : ℕ) (l : Log) → MayServe others o p b (regime c) u a l → IsKnown p q b b' c section need end x
     → Ends u a l (IsServedIn others o end q b' later u a)
 
 -- a fence that was asked for leaves the port and the book as they were

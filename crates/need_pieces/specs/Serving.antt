@@ -13,7 +13,6 @@ use Rattle.tlb_entry.specs.declared.books.Book.{Book}
 use Rattle.turn_pieces.specs.Log.{Log}
 use Rattle.access_pieces.specs.Serving.{MayGiveUp, Rests, Settles}
 use Rattle.table_pieces.specs.Flushing.{IsNotDue}
-use Rattle.call_pieces.specs.Laws.{HasOwnRunning}
 use Rattle.call_pieces.specs.Printing.{IsInOrder}
 use Rattle.hart_calls.specs.declared.asking.Asked.{Asked}
 use Rattle.hart_calls.specs.declared.outcomes.SbiEnd.{SbiEnd}
@@ -28,25 +27,24 @@ IsOfRegister (Need.Store va width value) = value < 2 ^ 64
 IsOfRegister (Need.Amo va op wide value) = value < 2 ^ 64
 IsOfRegister _ = Unit {0}
 
--- What a call needs of the log and of the machine's history besides: where bytes of RAM are printed in the section, that no other actor draws
--- between them; where the own hart is to be started, that the reference machine has it as running
+-- What a call needs of the machine's history besides: where bytes of RAM are printed in the section, that no other actor draws between them
 abbrev pub IsKnownWriting : (p q : Shown) (from count : ℕ) (end : SbiEnd) (section : Bool) → HasWritten p q from count end section → Type 0
 IsKnownWriting p q from count end true x = IsInSection (layout_of p) p.own.actor p.own.steps × ((first : ℕ) × IsInOrder p q from count first end true x)
 IsKnownWriting p q from count end section x = Unit {0}
 
-abbrev pub IsKnownCall : (p q : Shown) (section : Bool) (asked : Asked) (end : SbiEnd) → HasDone p q section asked end → Setup → ℕ → Log → Type 0
-IsKnownCall p q section (Asked.Starts target at opaque) end x u a l = target ≡ p.own.actor → HasOwnRunning u a l
-IsKnownCall p q section (Asked.Prints from count) end x u a l = count ≢ 0 → IsKnownWriting p q from count end section x
-IsKnownCall p q section asked end x u a l = Unit {0}
+abbrev pub IsKnownCall : (p q : Shown) (section : Bool) (asked : Asked) (end : SbiEnd) → HasDone p q section asked end → Type 0
+IsKnownCall p q section (Asked.Prints from count) end x = count ≢ 0 → IsKnownWriting p q from count end section x
+IsKnownCall p q section asked end x = Unit {0}
 
-abbrev pub IsKnown : (p q : Shown) (b b' : Book) (c : Arch) (section : Bool) (need : Need) (end : NeedEnd) → HasServed p q b b' c section need end → Setup → ℕ → Log → Type 0
-IsKnown p q b b' c section Need.Sbi end x u a l = IsKnownCall p q section x.1.0 x.0 x.1.2 u a l
-IsKnown p q b b' c section need end x u a l = Unit {0}
+abbrev pub IsKnown : (p q : Shown) (b b' : Book) (c : Arch) (section : Bool) (need : Need) (end : NeedEnd) → HasServed p q b b' c section need end → Type 0
+IsKnown p q b b' c section Need.Sbi end x = IsKnownCall p q section x.1.0 x.0 x.1.2
+IsKnown p q b b' c section need end x = Unit {0}
 
--- the log tells of the port and rests, and its hart, which isn't to stop at its limit, may execute what it holds
+-- the log tells of the port and rests, and its hart, which runs and isn't to stop at its limit, may execute what it holds
 pub record MayServe (others : ℕ → Bool) (o : Own) (p : Shown) (b : Book) (r : Regime) (u : Setup) (a : ℕ) (l : Log) : Type 0 where
   pub rests : Rests others o p b r u a l
   pub not_due : IsNotDue o u a l
+  pub runs : o.runs ≡ true
 
 -- the hart behind an instruction with this answer, and behind one that stopped it
 abbrev pub answered : Answer → Own → Own

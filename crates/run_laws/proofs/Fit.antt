@@ -87,6 +87,7 @@ module _ (u : Setup) (a : ℕ) (l : Log) (t : Placed) (r : List Placed) (is : pl
     words = x.words;
     here = to_last (HeldHere u w) (x.here, x.modes);
     section = λ k y v s e. x.section (subst (λ h. Rattle.step_laws.specs.Sections.IsInSection u.layout a h) (sym steps_are) k) y v s (ap (λ q. Rattle.run_laws.proofs.Kept.held_at y q) (sym is) ∙ (same_held y l ∙ e));
+    started = λ lt e. x.started lt (ap (λ (o : Own). o.runs) (sym part_is) ∙ e);
     room = λ i e. x.room i (ap Rattle.turn_pieces.specs.Doing.first_drawn (ap Rattle.run_laws.proofs.Kept.drawn (sym is) ∙ same_drawn l) ∙ e);
   }
     where

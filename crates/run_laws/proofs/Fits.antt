@@ -27,6 +27,7 @@ use Rattle.run_laws.proofs.Shown.{IsShown, ShownFor, ShownMade}
 use Rattle.run_laws.proofs.Kept.{part_at, held_at, drawn, handed_word, flushed_waiting}
 use Rattle.turn_pieces.specs.Folds.{script_of, was_last}
 use Rattle.turn_pieces.specs.Doing.{first_drawn}
+use Rattle.machine_model.specs.declared.mode.Mode.TheVariants.{Started}
 use Rattle.turn_pieces.specs.Right.{FetchedAt}
 use Rattle.turn_pieces.specs.Shared.{IsShared, mode_named}
 use Rattle.turn_pieces.specs.Requests.{Names}
@@ -46,6 +47,8 @@ pub record Sees (u : Setup) (a : ℕ) (s : Step) (p : List Placed) (w : Surround
   pub room : (i : ℕ) → first_drawn (drawn p) ≡ Some i → w.room ≡ console_places - i
   -- a hart's state is what the step answered
   pub modes : (t : ℕ) → t < u.layout.harts → name_of s.word ≡ Hsm t → s.op ≢ Store → w.modes t ≡ mode_named s.answer
+  -- and the own one is started where it runs by its own events
+  pub started : a < u.layout.harts → (part_at u a p).runs ≡ true → w.modes a ≡ Started
 
 -- a request of the page, or of all, is posted at the place of t, and since then the actor fetched nothing
 abbrev pub Posted : (a t k : ℕ) → Option ℕ → List Placed → Type 0

@@ -21,7 +21,7 @@ use Rattle.machine_model.specs.declared.mode.Mode.TheVariants.{Started, Halted, 
 use Rattle.machine_model.specs.Past.{HasSince}
 use Rattle.machine_model.specs.Event.{Event, Outcome, Fetch, Exec, GiveUp, Interrupt, Flushes, Start as Begin, Stop, Await, SnapBegin, SnapEnd, Dump, actor_of}
 use Rattle.machine_model.specs.State.{Setup, Hart, nth, hart, is_halted, memory, is_started, all_halted}
-use Rattle.machine_model.specs.Own.{own}
+use Rattle.machine_model.specs.Own.{Own, own}
 use Rattle.machine_model.specs.Access.{second_va}
 use Rattle.machine_model.specs.Walks.{Wanted, need, need_held, access_of}
 use Rattle.machine_model.specs.Perform.{surroundings, perform}
@@ -109,6 +109,7 @@ module _ (u : Setup) (boot : List Step) (runs : ℕ → Bool) (begun : IsBegun u
       section = λ i x v s k. mem_here x ∙ (held_here u boot runs begun t ts h d ne (held_of u boot runs begun ts tail d.1) es (quiet_entry es q) i.0 x v s k).1;
       room = λ i k. room_of u boot runs begun t ts h d ne es q i k;
       modes = λ k lt n o. mode_answered u boot runs begun ran t ts h d es q k lt n o;
+      started = λ lt e. started_of (hart (state_of u run) c).mode (ap (λ (o : Own). o.runs) (sym (part_here lt)) ∙ e);
     }
 
     allowed : (kind : Kind) (va : ℕ) (end : Walked) → IsShown u.layout.pages c (hart (state_of u run) c).arch kind va end p → IsAllowed u run c kind va end

@@ -78,6 +78,7 @@ machine_may_be = record {
   here = (λ s. absurd s, λ t lt e. absurd (cc (e)));
   section = λ s. absurd (true≢false (sym s.0));
   room = λ i e. subst (λ n. console_places ≡ console_places - n) (ap or_zero e) refl;
+  started = λ lt e. refl;
 }
 
 byte_of_another_value : IsRight u 0 drew (Exec 0 (Walked.Leaf 0xcf 0x10000000 0) Walked.PageFault (record (only Answer.Nothing) { bytes = 80 ∷ [] })) → ⊥

@@ -13,6 +13,7 @@ use Rattle.step_laws.specs.Words.{ipi_word, ram_word}
 use Rattle.step_laws.specs.Map.{Cons, Hsm, Start, Opaque, name_of}
 use Rattle.step_laws.specs.Words.{monitor}
 use Rattle.step_laws.specs.Sections.{IsInSection}
+use Rattle.machine_model.specs.declared.mode.Mode.TheVariants.{Started}
 use Rattle.machine_model.specs.declared.reason.Reason.{Reason}
 use Rattle.machine_model.specs.Event.{Event, Outcome, Fetch, Exec, GiveUp, Interrupt, Flushes, Start as Begin, Stop, Await, SnapBegin, SnapEnd, Dump, actor_of}
 use Rattle.machine_model.specs.State.{Setup, AwaitBytes, Snapshot, DumpBytes, StopAll}
@@ -74,6 +75,8 @@ pub record MayBe (u : Setup) (a : ℕ) (l : Log) (w : Surroundings) : Type 0 whe
   pub section : IsInSection u.layout a (steps_of l) → (x v : ℕ) → IsShared (name_of x) → known_word x l ≡ Some v → w.memory x ≡ v
   -- from the first place that was drawn for the event on, all are free
   pub room : (i : ℕ) → first_drawn (places l) ≡ Some i → w.room ≡ console_places - i
+  -- a hart that runs by its own events is started
+  pub started : a < u.layout.harts → (own_part u a l).runs ≡ true → w.modes a ≡ Started
 
 -- the flushes of an instruction: the own ones stand, the others are asked for and answered, since its Fetch
 abbrev pub AreFenced : (a : ℕ) → Log → Option Flushing → Type 0
