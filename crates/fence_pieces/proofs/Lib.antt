@@ -1,4 +1,4 @@
-mod Behind
+pub mod Behind
 mod Asking
-mod Quiet
+pub mod Quiet
 mod Owning

@@ -1,2 +1,2 @@
-mod Regimes
+pub mod Regimes
 mod Fetching

@@ -1,0 +1,4 @@
+pub mod Single
+mod Sides
+mod Stopping
+mod Starting
