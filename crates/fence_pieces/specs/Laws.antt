@@ -21,7 +21,7 @@ use Rattle.access_pieces.specs.Serving.{Rests}
 use Rattle.table_pieces.specs.Flushing.{IsNotDue}
 use Rattle.fence_pieces.specs.Asking.{HasPassed, IsOfAsks}
 use Rattle.fence_pieces.specs.Behind.{AreNoFetches, IsBehind}
-use Rattle.fence_pieces.specs.Owning.{AreFlushedIn, AreMadeInTable, ArePiecesFlushed, flushes_of}
+use Rattle.fence_pieces.specs.Owning.{AreFlushedIn, ArePiecesFlushed, flushes_of}
 
 -- a hart at which each piece of a fence was answered since the base was asked for all of it since the actor's last fetch
 abbrev pub FencesAreAsked : Type 0
@@ -29,12 +29,12 @@ FencesAreAsked = (span : Span) (t : ℕ) (p : Shown) (a : ℕ) (base l : Log) �
 
 -- the own pieces from one number on, up to another, are in each log that told of the port before, and the hart is beside its table behind them
 abbrev pub PiecesAreFlushed : Type 0
-PiecesAreFlushed = (span : Span) (from to : ℕ) (p q : Shown) (b c : Book) (r : Regime) → IsBeside b p → (x : HaveFlushed span from p b to q c) → AreMadeInTable x
+PiecesAreFlushed = (span : Span) (from to : ℕ) (p q : Shown) (b c : Book) (r : Regime) → IsBeside b p → (x : HaveFlushed span from p b to q c)
     → (others : ℕ → Bool) (o : Own) (u : Setup) (a : ℕ) (l : Log) → Rests others o p b r u a l → IsNotDue o u a l → IsBeside c q × AreFlushedIn span from to (flushes_of x a) others o q c r u a l
 
 -- and so where the lock was found held behind them
 abbrev pub PiecesAreHeld : Type 0
-PiecesAreHeld = (span : Span) (from to holder : ℕ) (p q : Shown) (b c : Book) (r : Regime) → IsBeside b p → (x : HasBeenBusyAt span from to holder p q b c) → AreMadeInTable x.flushed
+PiecesAreHeld = (span : Span) (from to holder : ℕ) (p q : Shown) (b c : Book) (r : Regime) → IsBeside b p → (x : HasBeenBusyAt span from to holder p q b c)
     → (others : ℕ → Bool) (o : Own) (u : Setup) (a : ℕ) (l : Log) → Rests others o p b r u a l → IsNotDue o u a l → AreFlushedIn span from to (flushes_of x.flushed a) others o q c r u a l
 
 -- posts and polls of the actor's own are in each log that told of the port before, and leave the hart beside its table

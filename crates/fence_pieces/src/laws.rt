@@ -9,9 +9,9 @@ pub fn law_asked()
     ensures all { FencesStand }
 {}
 
-/// The own pieces of a fence, each made on the hart's own table and left beside it, are in each log that told of the port before: it goes on by
-/// their steps, with a flush where each frees the lock, and each of them is flushed since the hart's last fetch. Where all pieces are, all that the
-/// fence names is. Where the lock was found held behind some, one exchange stands behind their flushes.
+/// The own pieces of a fence are in each log that told of the port before: it goes on by their steps, with a flush where each frees the lock, and
+/// each of them is flushed since the hart's last fetch. Where all pieces are, all that the fence names is. Where the lock was found held behind some,
+/// one exchange stands behind their flushes.
 pub fn law_own()
     ensures flushed { PiecesAreFlushed }
     ensures held { PiecesAreHeld }

@@ -8,9 +8,10 @@ use Rattle.step_laws.specs.Fields.{IsWordOf}
 use Rattle.step_laws.specs.Map.{Word, Kick, Lock, Place, Size, Tlb, name_of, number_of}
 use Rattle.step_laws.specs.Past.{Anything, Earlier}
 use Rattle.guest_ram.specs.declared.port.Seen.{Seen}
-use Rattle.guest_ram.specs.Areas.{IsOfPlaces}
+use Rattle.guest_ram.specs.Areas.{IsOfPlaces, IsOfTable}
 use Rattle.guest_ram.specs.Ports.{Shown, Made, GoesBy}
 use Rattle.tlb_entry.specs.declared.books.Book.{Book}
+use Rattle.kept_fills.specs.Beside.{IsBeside}
 use Rattle.flush.specs.Flushed.{HasBeenBusy, HasFlushed, HasFlushedAll, full_steps, page_steps}
 use Rattle.work_queue.specs.declared.rings.Sent.{Sent}
 use Rattle.work_queue.specs.Posts.{IsOfPosts}
@@ -88,10 +89,18 @@ HasFlushedPiece FlushAll p q b b' = HasFlushedAll p q b b'
 HasFlushedPiece (FlushPages page count) p q b b' = HasFlushed b.large p q b b' page count
 HasFlushedPiece Drain p q b b' = ⊥
 
--- the pieces from one number on, up to another, were flushed in the own table, one behind another
+-- how many steps the flush of a piece makes at most
+abbrev pub piece_steps : (large : Bool) → (size : ℕ) → Request → ℕ
+piece_steps large size FlushAll = full_steps size
+piece_steps large size (FlushPages page count) = page_steps large size count
+piece_steps large size Drain = 0
+
+-- the pieces from one number on, up to another, were flushed in the own table, one behind another, each by permitted steps on it, which left the
+-- hart beside it
 pub data HaveFlushed (span : Span) (from : ℕ) (p : Shown) (b : Book) : ℕ → Shown → Book → Type 0 where
   none : HaveFlushed span from p b from p b
-  more : {n : ℕ} {q r : Shown} {c d : Book} → HaveFlushed span from p b n q c → HasFlushedPiece (piece_of span n) q r c d → HaveFlushed span from p b (n + 1) r d
+  more : {n : ℕ} {q r : Shown} {c d : Book} → HaveFlushed span from p b n q c → HasFlushedPiece (piece_of span n) q r c d → GoesBy (piece_steps c.large c.size (piece_of span n)) IsOfTable q r → IsBeside d r
+      → HaveFlushed span from p b (n + 1) r d
 
 -- so many were, and then the lock was found held, by one exchange
 pub record HasBeenBusyAt (span : Span) (from to holder : ℕ) (p q : Shown) (b b' : Book) : Type 0 where
@@ -99,12 +108,6 @@ pub record HasBeenBusyAt (span : Span) (from to holder : ℕ) (p q : Shown) (b b
   pub book : Book
   pub flushed : HaveFlushed span from p b to between book
   pub busy : HasBeenBusy holder between q book b'
-
--- how many steps the flush of a piece makes at most
-abbrev pub piece_steps : (large : Bool) → (size : ℕ) → Request → ℕ
-piece_steps large size FlushAll = full_steps size
-piece_steps large size (FlushPages page count) = page_steps large size count
-piece_steps large size Drain = 0
 
 -- the words that fences touch: those of posts, and those of the own table with its lock
 abbrev pub IsOfFence : Word → Type 0
