@@ -2,3 +2,4 @@ mod Behind
 mod Asking
 mod Quiet
 mod Owning
+mod Turning

@@ -47,6 +47,10 @@ pub record AreFlushedIn (span : Span) (from to : ℕ) (added : List Event) (othe
   pub not_due : IsNotDue o u a late
   pub flushed : (i : ℕ) → from ≤ i → i < to → Flushed (events_of late) a a (asked_by (piece_of span i))
 
--- each piece is flushed at t since the last fetch of a
+-- each piece with a lower number than this is flushed at t since the last fetch of a
+abbrev pub AreFlushedUpTo : ℕ → Span → (a t : ℕ) → List Event → Type 0
+AreFlushedUpTo to span a t run = (i : ℕ) → i < to → Flushed run a t (asked_by (piece_of span i))
+
+-- all pieces are
 abbrev pub ArePiecesFlushed : Span → (a t : ℕ) → List Event → Type 0
-ArePiecesFlushed span a t run = (i : ℕ) → i < pieces_of span → Flushed run a t (asked_by (piece_of span i))
+ArePiecesFlushed span a t run = AreFlushedUpTo (pieces_of span) span a t run

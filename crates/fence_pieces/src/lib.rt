@@ -3,4 +3,4 @@
 
 mod laws;
 
-pub use laws::{law_asked, law_asks, law_behind, law_own};
+pub use laws::{law_asked, law_asks, law_behind, law_own, law_turns};
