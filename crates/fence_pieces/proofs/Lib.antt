@@ -3,3 +3,4 @@ mod Asking
 mod Quiet
 mod Owning
 mod Turning
+mod Ending

@@ -1,4 +1,5 @@
 // Laws of fences: each function's contract is its law.
+ghost use Rattle.fence_pieces.specs.Ending.{FencesAreDone};
 ghost use Rattle.fence_pieces.specs.Laws.{AsksRest, BehindStays, FencesAreAsked, FencesStand, FlushesStay, GrownIsBehind, PiecesAreFlushed, PiecesAreHeld, PiecesAreWhole, TurnsAreHeld, TurnsAreMade, TurnsGoOn};
 
 /// Where each piece of a fence was posted at a hart and answered since its base, and the log has no fetch of the actor since then, the hart was
@@ -30,6 +31,13 @@ pub fn law_turns()
     ensures made { TurnsAreMade }
     ensures held { TurnsAreHeld }
     ensures on { TurnsGoOn }
+{}
+
+/// An accepted fence is executed once it is done: where the hart holds a call for it, all own pieces are flushed since its last fetch if the mask names
+/// it, and each piece was answered at each other hart named since a base with no fetch of the hart's behind it, the log goes on by the call's execution,
+/// which succeeds, and settles with the port as it is.
+pub fn law_done()
+    ensures { FencesAreDone }
 {}
 
 /// A log that goes on with no fetch of the actor's stands behind what it was. What stands so behind such a log stands behind the first, and a flush
