@@ -12,12 +12,13 @@ use Rattle.machine_model.specs.Lawful.{Flushed}
 use Rattle.machine_model.specs.Own.{Own}
 use Rattle.machine_model.specs.Run.{includes, last_of}
 use Rattle.machine_model.specs.State.{Setup}
-use Rattle.guest_ram.specs.Ports.{Shown}
+use Rattle.guest_ram.specs.Areas.{IsOfTable}
+use Rattle.guest_ram.specs.Ports.{GoesBy, Shown}
 use Rattle.tlb_entry.specs.declared.books.Book.{Book}
 use Rattle.kept_fills.specs.Beside.{IsBeside}
 use Rattle.hart_calls.specs.declared.spans.Span.{Span}
 use Rattle.hart_calls.specs.declared.spans.Span.TheVariants as spans
-use Rattle.sbi_calls.specs.Fences.{HasFlushedPiece, HaveFlushed, more, none}
+use Rattle.sbi_calls.specs.Fences.{HasFlushedPiece, HaveFlushed, more, none, piece_steps}
 use Rattle.sbi_calls.specs.Spans.{piece_of}
 use Rattle.turn_pieces.specs.Grows.{stays}
 use Rattle.turn_pieces.specs.Log.{Log, did, events_of}
@@ -27,7 +28,7 @@ use Rattle.access_pieces.specs.Serving.{Rests}
 use Rattle.table_pieces.specs.Flushing.{IsNotDue, IsPlaced, flush_made}
 use Rattle.table_pieces.proofs.Placing.{full_is_placed, pages_are_placed}
 use Rattle.fence_pieces.specs.Laws.{FencesStand, PiecesAreFlushed, PiecesAreHeld, PiecesAreWhole}
-use Rattle.fence_pieces.specs.Owning.{AreFlushedIn, AreMadeInTable, IsMadeInTable, asked_by, flushes_of, made_for}
+use Rattle.fence_pieces.specs.Owning.{AreFlushedIn, asked_by, flushes_of, made_for}
 use Rattle.fence_pieces.proofs.Asking.{fences_are_asked, piece_high, piece_low, piece_there}
 use Rattle.fence_pieces.proofs.Quiet.{events_quietly, lock_passes}
 use Rattle.fence_pieces.proofs.Behind.{behind_stays, did_behind, flushed_later, quiet_behind}
@@ -43,19 +44,19 @@ asked_included (FlushPages page count) large = pages_included large page count
 asked_included Drain large = refl
 
 -- one piece
-piece_placed : (request : Request) (p q : Shown) (b c : Book) (r : Regime) → IsBeside b p → HasFlushedPiece request p q b c → IsMadeInTable p q c → (others : ℕ → Bool) (o : Own) (u : Setup) (a : ℕ) (l : Log) → Rests others o p b r u a l → IsNotDue o u a l
+piece_placed : (request : Request) (p q : Shown) (b c : Book) (r : Regime) → IsBeside b p → HasFlushedPiece request p q b c → (most : ℕ) → GoesBy most IsOfTable p q → (others : ℕ → Bool) (o : Own) (u : Setup) (a : ℕ) (l : Log) → Rests others o p b r u a l → IsNotDue o u a l
     → IsPlaced others o p q c r (made_for request b.large) u a l
-piece_placed FlushAll p q b c r can f m others o u a l x still = full_is_placed p q b c r r m.most can f m.goes others o u a l x still
-piece_placed (FlushPages page count) p q b c r can f m others o u a l x still = pages_are_placed p q b c r page count m.most can f m.goes others o u a l x still
-piece_placed Drain p q b c r can f m others o u a l x still = absurd f
+piece_placed FlushAll p q b c r can f most goes others o u a l x still = full_is_placed p q b c r r most can f goes others o u a l x still
+piece_placed (FlushPages page count) p q b c r can f most goes others o u a l x still = pages_are_placed p q b c r page count most can f goes others o u a l x still
+piece_placed Drain p q b c r can f most goes others o u a l x still = absurd f
 
 module _ (span : Span) (from : ℕ) (p : Shown) (b : Book) (r : Regime) (can : IsBeside b p) (others : ℕ → Bool) (o : Own) (u : Setup) (a : ℕ) (l : Log) (x : Rests others o p b r u a l) (still : IsNotDue o u a l) where
-  one_more : (n : ℕ) (q q' : Shown) (c d : Book) (added : List Event) → IsBeside c q → HasFlushedPiece (piece_of span n) q q' c d → IsMadeInTable q q' d → AreFlushedIn span from n added others o q c r u a l
+  one_more : (n : ℕ) (q q' : Shown) (c d : Book) (added : List Event) → IsBeside c q → HasFlushedPiece (piece_of span n) q q' c d → (most : ℕ) → GoesBy most IsOfTable q q' → AreFlushedIn span from n added others o q c r u a l
       → AreFlushedIn span from (n + 1) (Flushes a (made_for (piece_of span n) c.large) ∷ added) others o q' d r u a l
-  one_more n q q' c d added beside f m y =
+  one_more n q q' c d added beside f most goes y =
       let what = made_for (piece_of span n) c.large in
       let e = Flushes a what in
-      let z = piece_placed (piece_of span n) q q' c d r beside f m others o u a y.late y.rests y.not_due in
+      let z = piece_placed (piece_of span n) q q' c d r beside f most goes others o u a y.late y.rests y.not_due in
       let k = quietly z.added y.late in
       let late = did e ∷ k in
       let events : events_of k ≡ events_of y.late = events_quietly z.added y.late in record {
@@ -71,21 +72,21 @@ module _ (span : Span) (from : ℕ) (p : Shown) (b : Book) (r : Regime) (can : I
             (subst (λ (run : List Event). Flushed run a a (asked_by (piece_of span i))) (sym events) (y.flushed i low (omega (arith, high, other)))));
       }
 
-  all_flushed : (n : ℕ) (q : Shown) (c : Book) (y : HaveFlushed span from p b n q c) → AreMadeInTable y → IsBeside c q × AreFlushedIn span from n (flushes_of y a) others o q c r u a l
-  all_flushed n q c none m = (
+  all_flushed : (n : ℕ) (q : Shown) (c : Book) (y : HaveFlushed span from p b n q c) → IsBeside c q × AreFlushedIn span from n (flushes_of y a) others o q c r u a l
+  all_flushed n q c none = (
     can,
     record { late = l; grows = stays; behind = quiet_behind a [] l; events_are = refl; rests = x; not_due = still; flushed = λ i low high. absurd (omega (arith, low, high)) },
   )
-  all_flushed n q c (more {n = n'} {q = q'} {c = c'} before now) m =
-      let y = all_flushed n' q' c' before m.0 in
-      (m.1.beside, one_more n' q' q c' c (flushes_of before a) y.0 now m.1 y.1)
+  all_flushed n q c (more {n = n'} {q = q'} {c = c'} before now goes beside) =
+      let y = all_flushed n' q' c' before in
+      (beside, one_more n' q' q c' c (flushes_of before a) y.0 now (piece_steps c'.large c'.size (piece_of span n')) goes y.1)
 
 pub pieces_are_flushed : PiecesAreFlushed
-pieces_are_flushed span from to p q b c r can x made others o u a l rests still = all_flushed span from p b r can others o u a l rests still to q c x made
+pieces_are_flushed span from to p q b c r can x others o u a l rests still = all_flushed span from p b r can others o u a l rests still to q c x
 
 pub pieces_are_held : PiecesAreHeld
-pieces_are_held span from to holder p q b c r can x made others o u a l rests still =
-    let y = (all_flushed span from p b r can others o u a l rests still to x.between x.book x.flushed made).1 in
+pieces_are_held span from to holder p q b c r can x others o u a l rests still =
+    let y = (all_flushed span from p b r can others o u a l rests still to x.between x.book x.flushed).1 in
     let z = lock_passes holder x.between q x.book c r x.busy others o u a y.late y.rests in
     let late = quietly (z.0 ∷ []) y.late in record {
       late = late;

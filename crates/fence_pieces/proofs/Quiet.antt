@@ -13,7 +13,7 @@ use Rattle.machine_model.specs.Run.{is_due}
 use Rattle.machine_model.specs.Own.{Own}
 use Rattle.machine_model.specs.State.{Setup}
 use Rattle.guest_ram.specs.Plays.{step_of}
-use Rattle.guest_ram.proofs.Moves.{acting_goes, actor_few, fold_goes, goes_within}
+use Rattle.guest_ram.proofs.Moves.{acting_goes, actor_few, fold_goes}
 use Rattle.guest_ram.specs.Ports.{Shown, AreAllowed, GoesBy}
 use Rattle.walk_laws.specs.KeptWalks.{Item}
 use Rattle.tlb_entry.specs.declared.books.Book.{Book}
@@ -22,7 +22,8 @@ use Rattle.tlb_table.proofs.Aside.{IsOffTable}
 use Rattle.kept_fills.specs.Fills.{GoesWithFills}
 use Rattle.kept_fills.proofs.Staying.{fills_stay}
 use Rattle.flush.specs.Flushed.{HasBeenBusy}
-use Rattle.work_queue.specs.Posts.{IsOfPosts}
+use Rattle.sbi_calls.specs.Fences.{IsOfAsks}
+use Rattle.sbi_calls.proofs.Asks.{posts_of}
 use Rattle.sbi_calls.proofs.Turned.{beside_posts}
 use Rattle.turn_pieces.specs.Doing.{IsCalm}
 use Rattle.turn_pieces.specs.Grows.{Grows}
@@ -34,7 +35,6 @@ use Rattle.turn_pieces.proofs.Unmarked.{is_other, unmarked_quietly}
 use Rattle.turn_pieces.proofs.Writers.{calm_owes, quietly_grows, quietly_tells}
 use Rattle.access_pieces.specs.Serving.{Rests, view}
 use Rattle.access_pieces.proofs.Spots.{flushes_quietly}
-use Rattle.fence_pieces.specs.Asking.{IsOfAsks}
 use Rattle.fence_pieces.specs.Laws.{AsksRest}
 use Rattle.fence_pieces.proofs.Behind.{quiet_behind}
 
@@ -112,11 +112,6 @@ asks_unmarked a (Place t s k) x = refl
 asks_unmarked a (Kick h) x = refl
 asks_unmarked a w x = absurd x
 
-asks_posts : (a : ℕ) (w : Word) → IsOfAsks a w → IsOfPosts w
-asks_posts a (Place t s k) x = tt
-asks_posts a (Kick h) x = tt
-asks_posts a w x = absurd x
-
 asks_going : (a : ℕ) (w : Word) (op : WordOp) (arg answer : ℕ) (b : Bool) → IsOfAsks a w → is_finished_next w op arg answer b ≡ b
 asks_going a (Place t s k) op arg answer b x = refl
 asks_going a (Kick h) op arg answer b x = refl
@@ -156,7 +151,7 @@ asks_rest most p q b r can goes others o u a l x still =
     let ne : own ≢ loader = let few = actor_few p can.acting in λ (e : own ≡ loader). let is : own ≡ 9 = e in omega (arith, few, is) in
     let z = passes (IsOfAsks own) (λ w t. asks_off own w t) (λ w t. asks_unmarked own w t) most p q b r goes (all_calm p goes.added ne goes.allowed) others o u a l x in
     let going : is_finished q.own.steps ≡ false = fold_goes is_finished_next false most (IsOfAsks own) p q (λ w op arg answer b t. asks_going own w op arg answer b t) goes ∙ can.acting.going in (
-      beside_posts b most p q can (goes_within most (IsOfAsks own) IsOfPosts p q (λ w t. asks_posts own w t) goes) (acting_goes most (IsOfAsks own) p q goes going can.acting),
+      beside_posts b most p q can (posts_of most own p q goes) (acting_goes most (IsOfAsks own) p q goes going can.acting),
       record {
         added = goes.added;
         steps_are = ap (λ (y : Shown). y.own.steps) goes.grown;

@@ -2,7 +2,6 @@
 use Rattle.std.specs.Prelude.{◌≡◌, ℕ, Bool, List, ◌++◌}
 use Rattle.rv64_priv.specs.declared.state.Regime.{Regime}
 use Rattle.step_laws.specs.declared.steps.Step.{Step}
-use Rattle.step_laws.specs.Map.{Word, Kick, Place}
 use Rattle.machine_model.specs.Own.{Own}
 use Rattle.machine_model.specs.State.{Setup}
 use Rattle.guest_ram.specs.Ports.{Shown}
@@ -13,12 +12,6 @@ use Rattle.turn_pieces.specs.Writers.{quietly}
 use Rattle.access_pieces.specs.Serving.{Rests}
 use Rattle.table_pieces.specs.Flushing.{IsNotDue}
 use Rattle.fence_pieces.specs.Behind.{IsBehind}
-
--- the words of one source's posts and polls: its places at others, and KICK
-abbrev pub IsOfAsks : (source : ℕ) → Word → Type 0
-IsOfAsks a (Place t s k) = s ≡ a
-IsOfAsks a (Kick h) = Unit {0}
-IsOfAsks a _ = ⊥
 
 -- the log goes on by steps alone, to one that tells of the port behind and rests, of a hart that isn't to stop at its limit
 pub record HasPassed (others : ℕ → Bool) (o : Own) (p q : Shown) (b : Book) (r : Regime) (u : Setup) (a : ℕ) (l : Log) : Type 0 where

@@ -1,5 +1,5 @@
 -- Laws of fences: what they are to the log of the hart that makes them.
-use Rattle.std.specs.Prelude.{◌≡◌, ◌≢◌, ℕ, Bool, List, ◌++◌, Some}
+use Rattle.std.specs.Prelude.{◌≡◌, ◌≢◌, ◌≤◌, ◌<◌, ℕ, Bool, List, ◌++◌, Some}
 use Rattle.std.specs.List.{AllByRecursion}
 use Rattle.rv64_priv.specs.Flush.{Flush}
 use Rattle.rv64_priv.specs.declared.state.Regime.{Regime}
@@ -12,16 +12,17 @@ use Rattle.tlb_entry.specs.declared.books.Book.{Book}
 use Rattle.kept_fills.specs.Beside.{IsBeside}
 use Rattle.hart_calls.specs.Spans.{flush_of}
 use Rattle.hart_calls.specs.declared.spans.Span.{Span}
-use Rattle.sbi_calls.specs.Fences.{HasBeenBusyAt, HaveFlushed, IsAnsweredAt}
+use Rattle.sbi_calls.specs.Spans.{piece_of}
+use Rattle.sbi_calls.specs.Fences.{HasBeenBusyAt, HasBeenHeld, HasFlushedOwn, HaveFlushed, IsAnsweredAt, IsOfAsks}
 use Rattle.turn_pieces.specs.Grows.{Grows}
 use Rattle.turn_pieces.specs.Log.{Log, events_of, steps_of}
 use Rattle.turn_pieces.specs.Requests.{HasAsked}
 use Rattle.turn_pieces.specs.Right.{AreFenced}
 use Rattle.access_pieces.specs.Serving.{Rests}
 use Rattle.table_pieces.specs.Flushing.{IsNotDue}
-use Rattle.fence_pieces.specs.Asking.{HasPassed, IsOfAsks}
+use Rattle.fence_pieces.specs.Asking.{HasPassed}
 use Rattle.fence_pieces.specs.Behind.{AreNoFetches, IsBehind}
-use Rattle.fence_pieces.specs.Owning.{AreFlushedIn, AreMadeInTable, ArePiecesFlushed, flushes_of}
+use Rattle.fence_pieces.specs.Owning.{AreFlushedIn, AreFlushedUpTo, ArePiecesFlushed, asked_by, flushes_of}
 
 -- a hart at which each piece of a fence was answered since the base was asked for all of it since the actor's last fetch
 abbrev pub FencesAreAsked : Type 0
@@ -29,13 +30,30 @@ FencesAreAsked = (span : Span) (t : ℕ) (p : Shown) (a : ℕ) (base l : Log) �
 
 -- the own pieces from one number on, up to another, are in each log that told of the port before, and the hart is beside its table behind them
 abbrev pub PiecesAreFlushed : Type 0
-PiecesAreFlushed = (span : Span) (from to : ℕ) (p q : Shown) (b c : Book) (r : Regime) → IsBeside b p → (x : HaveFlushed span from p b to q c) → AreMadeInTable x
+PiecesAreFlushed = (span : Span) (from to : ℕ) (p q : Shown) (b c : Book) (r : Regime) → IsBeside b p → (x : HaveFlushed span from p b to q c)
     → (others : ℕ → Bool) (o : Own) (u : Setup) (a : ℕ) (l : Log) → Rests others o p b r u a l → IsNotDue o u a l → IsBeside c q × AreFlushedIn span from to (flushes_of x a) others o q c r u a l
 
 -- and so where the lock was found held behind them
 abbrev pub PiecesAreHeld : Type 0
-PiecesAreHeld = (span : Span) (from to holder : ℕ) (p q : Shown) (b c : Book) (r : Regime) → IsBeside b p → (x : HasBeenBusyAt span from to holder p q b c) → AreMadeInTable x.flushed
+PiecesAreHeld = (span : Span) (from to holder : ℕ) (p q : Shown) (b c : Book) (r : Regime) → IsBeside b p → (x : HasBeenBusyAt span from to holder p q b c)
     → (others : ℕ → Bool) (o : Own) (u : Setup) (a : ℕ) (l : Log) → Rests others o p b r u a l → IsNotDue o u a l → AreFlushedIn span from to (flushes_of x.flushed a) others o q c r u a l
+
+-- a turn of a fence that came to an answer other than that the lock is held is in each log that told of the port before, and leaves the hart beside
+-- its table: the log goes on with the events of the own pieces alone
+abbrev pub TurnsAreMade : Type 0
+TurnsAreMade = (span : Span) (from to : ℕ) (p q : Shown) (b c : Book) (r : Regime) → IsBeside b p → (x : HasFlushedOwn span from to p q b c)
+    → (others : ℕ → Bool) (o : Own) (u : Setup) (a : ℕ) (l : Log) → Rests others o p b r u a l → IsNotDue o u a l → IsBeside c q × AreFlushedIn span from to (flushes_of x.flushed a) others o q c r u a l
+
+-- and so one that found the lock held
+abbrev pub TurnsAreHeld : Type 0
+TurnsAreHeld = (span : Span) (from to holder : ℕ) (p q : Shown) (b c : Book) (r : Regime) → IsBeside b p → (x : HasBeenHeld span from to holder p q b c)
+    → (others : ℕ → Bool) (o : Own) (u : Setup) (a : ℕ) (l : Log) → Rests others o p b r u a l → IsNotDue o u a l → AreFlushedIn span from to (flushes_of x.busy.flushed a) others o q c r u a l
+
+-- where the pieces up to one number were flushed since the actor's last fetch, and more of them are in a log behind with no fetch between, those up
+-- to the end of these are
+abbrev pub TurnsGoOn : Type 0
+TurnsGoOn = (span : Span) (from to a : ℕ) (l late : Log) → IsBehind a l late → AreFlushedUpTo from span a a (events_of l) → ((i : ℕ) → from ≤ i → i < to → Flushed (events_of late) a a (asked_by (piece_of span i)))
+    → AreFlushedUpTo to span a a (events_of late)
 
 -- posts and polls of the actor's own are in each log that told of the port before, and leave the hart beside its table
 abbrev pub AsksRest : Type 0

@@ -8,10 +8,8 @@ use Rattle.machine_model.specs.Event.{Event, Flushes}
 use Rattle.machine_model.specs.Lawful.{Flushed}
 use Rattle.machine_model.specs.Own.{Own}
 use Rattle.machine_model.specs.State.{Setup}
-use Rattle.guest_ram.specs.Areas.{IsOfTable}
-use Rattle.guest_ram.specs.Ports.{GoesBy, Shown}
+use Rattle.guest_ram.specs.Ports.{Shown}
 use Rattle.tlb_entry.specs.declared.books.Book.{Book}
-use Rattle.kept_fills.specs.Beside.{IsBeside}
 use Rattle.hart_calls.specs.declared.spans.Span.{Span}
 use Rattle.sbi_calls.specs.Fences.{HaveFlushed, more, none}
 use Rattle.sbi_calls.specs.Spans.{piece_of, pieces_of}
@@ -33,20 +31,10 @@ abbrev pub made_for : Request → (large : Bool) → Flush
 made_for (FlushPages page count) large = flush_made large page count
 made_for request large = Full
 
--- a flush was made by permitted steps on the hart's table, and left the hart beside it
-pub record IsMadeInTable (p q : Shown) (b' : Book) : Type 0 where
-  pub most : ℕ
-  pub goes : GoesBy most IsOfTable p q
-  pub beside : IsBeside b' q
-
-abbrev pub AreMadeInTable : {span : Span} {from : ℕ} {p : Shown} {b : Book} {to : ℕ} {q : Shown} {c : Book} → HaveFlushed span from p b to q c → Type 0
-AreMadeInTable none = Unit {0}
-AreMadeInTable (more {q = q} {r = r} {d = d} before now) = AreMadeInTable before × IsMadeInTable q r d
-
--- their events
+-- the events of pieces
 abbrev pub flushes_of : {span : Span} {from : ℕ} {p : Shown} {b : Book} {to : ℕ} {q : Shown} {c : Book} → HaveFlushed span from p b to q c → (a : ℕ) → List Event
 flushes_of none a = []
-flushes_of {span = span} (more {n = n} {c = c} before now) a = Flushes a (made_for (piece_of span n) c.large) ∷ flushes_of before a
+flushes_of {span = span} (more {n = n} {c = c} before now goes beside) a = Flushes a (made_for (piece_of span n) c.large) ∷ flushes_of before a
 
 -- The log goes on with these events more to one that tells of the port behind and rests, of a hart that isn't to stop at its limit; each piece is
 -- flushed since its last fetch
@@ -59,6 +47,10 @@ pub record AreFlushedIn (span : Span) (from to : ℕ) (added : List Event) (othe
   pub not_due : IsNotDue o u a late
   pub flushed : (i : ℕ) → from ≤ i → i < to → Flushed (events_of late) a a (asked_by (piece_of span i))
 
--- each piece is flushed at t since the last fetch of a
+-- each piece with a lower number than this is flushed at t since the last fetch of a
+abbrev pub AreFlushedUpTo : ℕ → Span → (a t : ℕ) → List Event → Type 0
+AreFlushedUpTo to span a t run = (i : ℕ) → i < to → Flushed run a t (asked_by (piece_of span i))
+
+-- all pieces are
 abbrev pub ArePiecesFlushed : Span → (a t : ℕ) → List Event → Type 0
-ArePiecesFlushed span a t run = (i : ℕ) → i < pieces_of span → Flushed run a t (asked_by (piece_of span i))
+ArePiecesFlushed span a t run = AreFlushedUpTo (pieces_of span) span a t run

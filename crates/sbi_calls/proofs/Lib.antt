@@ -1,4 +1,5 @@
 pub mod Asked
+pub mod Asks
 pub mod Fenced
 pub mod Owns
 pub mod Turned

@@ -8,12 +8,12 @@ use Rattle.step_laws.specs.Fields.{IsWordOf}
 use Rattle.step_laws.specs.Map.{Word, Kick, Lock, Place, Size, Tlb, name_of, number_of}
 use Rattle.step_laws.specs.Past.{Anything, Earlier}
 use Rattle.guest_ram.specs.declared.port.Seen.{Seen}
-use Rattle.guest_ram.specs.Areas.{IsOfPlaces}
+use Rattle.guest_ram.specs.Areas.{IsOfTable}
 use Rattle.guest_ram.specs.Ports.{Shown, Made, GoesBy}
 use Rattle.tlb_entry.specs.declared.books.Book.{Book}
+use Rattle.kept_fills.specs.Beside.{IsBeside}
 use Rattle.flush.specs.Flushed.{HasBeenBusy, HasFlushed, HasFlushedAll, full_steps, page_steps}
 use Rattle.work_queue.specs.declared.rings.Sent.{Sent}
-use Rattle.work_queue.specs.Posts.{IsOfPosts}
 use Rattle.work_queue.specs.Rings.{next_post}
 use Rattle.sbi_calls.specs.declared.spans.Fence.{Fence}
 use Rattle.hart_calls.specs.declared.spans.Span.{Span}
@@ -88,10 +88,18 @@ HasFlushedPiece FlushAll p q b b' = HasFlushedAll p q b b'
 HasFlushedPiece (FlushPages page count) p q b b' = HasFlushed b.large p q b b' page count
 HasFlushedPiece Drain p q b b' = ⊥
 
--- the pieces from one number on, up to another, were flushed in the own table, one behind another
+-- how many steps the flush of a piece makes at most
+abbrev pub piece_steps : (large : Bool) → (size : ℕ) → Request → ℕ
+piece_steps large size FlushAll = full_steps size
+piece_steps large size (FlushPages page count) = page_steps large size count
+piece_steps large size Drain = 0
+
+-- the pieces from one number on, up to another, were flushed in the own table, one behind another, each by permitted steps on it, which left the
+-- hart beside it
 pub data HaveFlushed (span : Span) (from : ℕ) (p : Shown) (b : Book) : ℕ → Shown → Book → Type 0 where
   none : HaveFlushed span from p b from p b
-  more : {n : ℕ} {q r : Shown} {c d : Book} → HaveFlushed span from p b n q c → HasFlushedPiece (piece_of span n) q r c d → HaveFlushed span from p b (n + 1) r d
+  more : {n : ℕ} {q r : Shown} {c d : Book} → HaveFlushed span from p b n q c → HasFlushedPiece (piece_of span n) q r c d → GoesBy (piece_steps c.large c.size (piece_of span n)) IsOfTable q r → IsBeside d r
+      → HaveFlushed span from p b (n + 1) r d
 
 -- so many were, and then the lock was found held, by one exchange
 pub record HasBeenBusyAt (span : Span) (from to holder : ℕ) (p q : Shown) (b b' : Book) : Type 0 where
@@ -100,11 +108,16 @@ pub record HasBeenBusyAt (span : Span) (from to holder : ℕ) (p q : Shown) (b b
   pub flushed : HaveFlushed span from p b to between book
   pub busy : HasBeenBusy holder between q book b'
 
--- how many steps the flush of a piece makes at most
-abbrev pub piece_steps : (large : Bool) → (size : ℕ) → Request → ℕ
-piece_steps large size FlushAll = full_steps size
-piece_steps large size (FlushPages page count) = page_steps large size count
-piece_steps large size Drain = 0
+-- the words of one source's posts: its places, and KICK
+abbrev pub IsOfAsks : (source : ℕ) → Word → Type 0
+IsOfAsks a (Place t s k) = s ≡ a
+IsOfAsks a (Kick h) = Unit {0}
+IsOfAsks a _ = ⊥
+
+-- and those of its polls
+abbrev pub IsOfPolls : (source : ℕ) → Word → Type 0
+IsOfPolls a (Place t s k) = s ≡ a
+IsOfPolls a _ = ⊥
 
 -- the words that fences touch: those of posts, and those of the own table with its lock
 abbrev pub IsOfFence : Word → Type 0
@@ -115,16 +128,16 @@ IsOfFence (Size h) = Unit {0}
 IsOfFence (Tlb h j f) = Unit {0}
 IsOfFence _ = ⊥
 
--- the posts of this call were made, then the own pieces from one number on, up to another, were flushed, and then places polled
+-- posts of the own were made, then the own pieces from one number on, up to another, were flushed, and then own places polled
 pub record HasFlushedOwn (span : Span) (from to : ℕ) (p q : Shown) (b b' : Book) : Type 0 where
   pub asked : Shown
   pub served : Shown
-  pub posts : GoesBy 216 IsOfPosts p asked
+  pub posts : GoesBy 216 (IsOfAsks p.own.actor) p asked
   pub flushed : HaveFlushed span from asked b to served b'
-  pub polls : GoesBy 64 IsOfPlaces served q
+  pub polls : GoesBy 64 (IsOfPolls served.own.actor) served q
 
 -- and the same up to where the own lock was found held
 pub record HasBeenHeld (span : Span) (from to holder : ℕ) (p q : Shown) (b b' : Book) : Type 0 where
   pub asked : Shown
-  pub posts : GoesBy 216 IsOfPosts p asked
+  pub posts : GoesBy 216 (IsOfAsks p.own.actor) p asked
   pub busy : HasBeenBusyAt span from to holder asked q b b'

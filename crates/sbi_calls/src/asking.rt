@@ -2,10 +2,9 @@
 ghost use Rattle.std.specs.Prelude.{◌≡◌, ◌≢◌, ◌<◌, ◌≤◌, ℕ, IfNone, IfSome, List, slice_index};
 ghost use Rattle.step_laws.specs.declared.steps.Step.{Step};
 ghost use Rattle.guest_ram.specs.Ports.{layout_of, GoesBy, IsActing};
-ghost use Rattle.sbi_calls.specs.Fences.{GoesWithFence, HasFoundFull, HasFoundOpen, IsFenceAt, IsFencing, IsTarget};
+ghost use Rattle.sbi_calls.specs.Fences.{GoesWithFence, HasFoundFull, HasFoundOpen, IsFenceAt, IsFencing, IsOfAsks, IsTarget};
 ghost use Rattle.hart_calls.specs.Spans.{IsSpan};
 ghost use Rattle.sbi_calls.specs.Spans.{pieces_of};
-ghost use Rattle.work_queue.specs.Posts.{IsOfPosts};
 ghost use Rattle.work_queue.specs.Rings.{IsSentBy, IsServedBy, next_post};
 ghost use Rattle.work_queue.specs.declared.rings.Served.{Served as TheServed};
 
@@ -37,7 +36,7 @@ pub(crate) fn post_pieces<P: Port>(
     ensures sent { IsSentBy sent.new (P.shows port.new) }
     ensures served { (served : TheServed) → IsServedBy served (P.shows port.old) → IsServedBy served (P.shows port.new) }
     ensures acting { IsActing (P.shows port.new) }
-    ensures goes { GoesBy 27 IsOfPosts (P.shows port.old) (P.shows port.new) }
+    ensures goes { GoesBy 27 (IsOfAsks (P.shows port.old).own.actor) (P.shows port.old) (P.shows port.new) }
 {
     for number in posted..pieces(span) {
         match post(port, sent, target, &piece(span, number)) {
@@ -70,7 +69,7 @@ fn post_at<P: Port>(
     ensures sent { IsSentBy sent.new (P.shows port.new) }
     ensures served { (served : TheServed) → IsServedBy served (P.shows port.old) → IsServedBy served (P.shows port.new) }
     ensures acting { IsActing (P.shows port.new) }
-    ensures goes { GoesBy 27 IsOfPosts (P.shows port.old) (P.shows port.new) }
+    ensures goes { GoesBy 27 (IsOfAsks (P.shows port.old).own.actor) (P.shows port.old) (P.shows port.new) }
 {
     if hart == port.actor() {
         return None;
@@ -102,7 +101,7 @@ pub(crate) fn post_all<P: Port>(
     ensures sent { IsSentBy sent.new (P.shows port.new) }
     ensures served { (served : TheServed) → IsServedBy served (P.shows port.old) → IsServedBy served (P.shows port.new) }
     ensures acting { IsActing (P.shows port.new) }
-    ensures goes { GoesBy 216 IsOfPosts (P.shows port.old) (P.shows port.new) }
+    ensures goes { GoesBy 216 (IsOfAsks (P.shows port.old).own.actor) (P.shows port.old) (P.shows port.new) }
 {
     for hart in 0..port.layout().harts {
         match post_at(port, sent, harts, span, fence, hart) {

@@ -1,9 +1,8 @@
 // Polls of a fence: whether its pieces are acked.
 ghost use Rattle.std.specs.Prelude.{◌≡◌, ◌≢◌, ◌<◌, ◌≤◌, ℕ, IfNone, IfSome, List, slice_index};
 ghost use Rattle.step_laws.specs.declared.steps.Step.{Step};
-ghost use Rattle.guest_ram.specs.Areas.{IsOfPlaces};
 ghost use Rattle.guest_ram.specs.Ports.{layout_of, GoesBy, IsActing};
-ghost use Rattle.sbi_calls.specs.Fences.{GoesWithFence, HasFoundFull, HasFoundOpen, IsFenceAt, IsPolling, IsTarget};
+ghost use Rattle.sbi_calls.specs.Fences.{GoesWithFence, HasFoundFull, HasFoundOpen, IsFenceAt, IsOfPolls, IsPolling, IsTarget};
 ghost use Rattle.hart_calls.specs.declared.spans.Span.{Span as TheSpan};
 ghost use Rattle.work_queue.specs.Rings.{IsSentBy, IsServedBy, next_post};
 ghost use Rattle.work_queue.specs.declared.rings.Served.{Served as TheServed};
@@ -34,7 +33,7 @@ pub(crate) fn poll_pieces<P: Port>(
     ensures sent { IsSentBy sent.now (P.shows port.new) }
     ensures served { (served : TheServed) → IsServedBy served (P.shows port.old) → IsServedBy served (P.shows port.new) }
     ensures acting { IsActing (P.shows port.new) }
-    ensures goes { GoesBy 8 IsOfPlaces (P.shows port.old) (P.shows port.new) }
+    ensures goes { GoesBy 8 (IsOfPolls (P.shows port.old).own.actor) (P.shows port.old) (P.shows port.new) }
 {
     let next = sent.next[target as usize];
     for number in acked..posted {
@@ -68,7 +67,7 @@ fn poll_at<P: Port>(
     ensures sent { IsSentBy sent.now (P.shows port.new) }
     ensures served { (served : TheServed) → IsServedBy served (P.shows port.old) → IsServedBy served (P.shows port.new) }
     ensures acting { IsActing (P.shows port.new) }
-    ensures goes { GoesBy 8 IsOfPlaces (P.shows port.old) (P.shows port.new) }
+    ensures goes { GoesBy 8 (IsOfPolls (P.shows port.old).own.actor) (P.shows port.old) (P.shows port.new) }
 {
     if hart == port.actor() {
         return None;
@@ -105,7 +104,7 @@ pub(crate) fn poll_all<P: Port>(
     ensures sent { IsSentBy sent.now (P.shows port.new) }
     ensures served { (served : TheServed) → IsServedBy served (P.shows port.old) → IsServedBy served (P.shows port.new) }
     ensures acting { IsActing (P.shows port.new) }
-    ensures goes { GoesBy 64 IsOfPlaces (P.shows port.old) (P.shows port.new) }
+    ensures goes { GoesBy 64 (IsOfPolls (P.shows port.old).own.actor) (P.shows port.old) (P.shows port.new) }
 {
     for hart in 0..port.layout().harts {
         match poll_at(port, sent, harts, fence, hart) {

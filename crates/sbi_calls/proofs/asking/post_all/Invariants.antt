@@ -2,10 +2,9 @@ use Rattle.std.proofs.Common.{◌≡◌, ◌<◌, ◌*◌, ℕ, List}
 use Rattle.std.specs.Prelude.{slice_index}
 use Rattle.step_laws.specs.declared.steps.Step.{Step}
 use Rattle.guest_ram.specs.Ports.{GoesBy, IsActing}
-use Rattle.work_queue.specs.Posts.{IsOfPosts}
 use Rattle.work_queue.specs.declared.rings.Served.{Served}
 use Rattle.work_queue.specs.Rings.{IsSentBy, IsServedBy}
-use Rattle.sbi_calls.specs.Fences.{GoesWithFence, IsTarget}
+use Rattle.sbi_calls.specs.Fences.{GoesWithFence, IsOfAsks, IsTarget}
 use Rattle.sbi_calls.specs.Spans.{pieces_of}
 use Rattle.sbi_calls.proofs.asking.post_all.Given as goal
 
@@ -17,5 +16,5 @@ invariant-loop-hart g l = record {
   sent_is : IsSentBy l.sent (g.P.Look.shows l.port);
   served : (served : Served) → IsServedBy served (g.P.Look.shows l.fn.port) → IsServedBy served (g.P.Look.shows l.port);
   acting : IsActing (g.P.Look.shows l.port);
-  goes : GoesBy (27 * l.hart) IsOfPosts (g.P.Look.shows l.fn.port) (g.P.Look.shows l.port);
+  goes : GoesBy (27 * l.hart) (IsOfAsks (g.P.Look.shows l.fn.port).own.actor) (g.P.Look.shows l.fn.port) (g.P.Look.shows l.port);
 }

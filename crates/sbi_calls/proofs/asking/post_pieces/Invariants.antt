@@ -1,10 +1,9 @@
 use Rattle.std.proofs.Common.{◌≡◌, ◌≢◌, ◌≤◌, ◌*◌, ℕ, List}
 use Rattle.step_laws.specs.declared.steps.Step.{Step}
 use Rattle.guest_ram.specs.Ports.{GoesBy, IsActing}
-use Rattle.work_queue.specs.Posts.{IsOfPosts}
 use Rattle.work_queue.specs.declared.rings.Served.{Served}
 use Rattle.work_queue.specs.Rings.{IsSentBy, next_post, IsServedBy}
-use Rattle.sbi_calls.specs.Fences.{IsFenceAt}
+use Rattle.sbi_calls.specs.Fences.{IsFenceAt, IsOfAsks}
 use Rattle.sbi_calls.proofs.asking.post_pieces.Given as goal
 
 abbrev pub invariant-loop-number : goal.invariant-loop-number
@@ -16,5 +15,5 @@ invariant-loop-number g l = record {
   sent_is : IsSentBy l.sent (g.P.Look.shows l.port);
   served : (served : Served) → IsServedBy served (g.P.Look.shows l.fn.port) → IsServedBy served (g.P.Look.shows l.port);
   acting : IsActing (g.P.Look.shows l.port);
-  goes : GoesBy (3 * l.number) IsOfPosts (g.P.Look.shows l.fn.port) (g.P.Look.shows l.port);
+  goes : GoesBy (3 * l.number) (IsOfAsks (g.P.Look.shows l.fn.port).own.actor) (g.P.Look.shows l.fn.port) (g.P.Look.shows l.port);
 }

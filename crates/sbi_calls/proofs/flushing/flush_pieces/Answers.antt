@@ -19,9 +19,9 @@ returns-in-Err-clause-goes g c = within_busy c.args.book.now _ (g.P.Look.shows c
 
 pub loop-number-preserved : goal.loop-number-preserved
 loop-number-preserved g c = let i = c.loop-number.invariant in let p = g.P.Look.shows c.loop-number.port in let q = g.P.Look.shows c.flush_request.new.port in let b = c.loop-number.book in let d = c.flush_request.new.book in
-    let made = subst (λ r. HasFlushedPiece r p q b d) c.piece.ensures.piece c.in-Ok.ensures.flushed in record {
-      flushed = more i.flushed made;
-      within = within_more c.args.book.now _ p q b d c.args.span.now c.loop-number.number (omega (arith, c.pieces-number-end.ensures.count)) (subst IsRequest c.piece.ensures.piece c.piece.ensures.request) i.within made
-          (subst (λ r. GoesBy (piece_steps b.large b.size r) IsOfTable p q) c.piece.ensures.piece c.flush_request.ensures.goes);
+    let made = subst (λ r. HasFlushedPiece r p q b d) c.piece.ensures.piece c.in-Ok.ensures.flushed in
+    let goes = subst (λ r. GoesBy (piece_steps b.large b.size r) IsOfTable p q) c.piece.ensures.piece c.flush_request.ensures.goes in record {
+      flushed = more i.flushed made goes c.flush_request.ensures.beside;
+      within = within_more c.args.book.now _ p q b d c.args.span.now c.loop-number.number (omega (arith, c.pieces-number-end.ensures.count)) (subst IsRequest c.piece.ensures.piece c.piece.ensures.request) i.within made goes;
       beside = c.flush_request.ensures.beside;
     }
