@@ -1,3 +1,3 @@
 mod Stepping
 mod Answering
-mod Rounds
+pub mod Rounds

@@ -1,4 +1,4 @@
 pub mod Single
-mod Sides
-mod Stopping
-mod Starting
+pub mod Sides
+pub mod Stopping
+pub mod Starting

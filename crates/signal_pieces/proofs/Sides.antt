@@ -28,37 +28,37 @@ use Rattle.signal_pieces.specs.Laws.{EndsPass, SidesPass, TurnsBegin}
 use Rattle.signal_pieces.specs.Signalling.{IsOfSides}
 use Rattle.signal_pieces.proofs.Single.{goes_one, one_passes, passed, step_at}
 
-sides_off_lock : (w : Word) → IsOfSides w → IsOffLock w
+pub sides_off_lock : (w : Word) → IsOfSides w → IsOffLock w
 sides_off_lock Pend t = tt
 sides_off_lock (Run a) t = tt
 sides_off_lock (Kick h) t = tt
 sides_off_lock w t = absurd t
 
-sides_off : (w : Word) → IsOfSides w → IsOffTable w
+pub sides_off : (w : Word) → IsOfSides w → IsOffTable w
 sides_off Pend t = tt
 sides_off (Run a) t = tt
 sides_off (Kick h) t = tt
 sides_off w t = absurd t
 
-sides_unmarked : (w : Word) → IsOfSides w → is_other w ≡ true
+pub sides_unmarked : (w : Word) → IsOfSides w → is_other w ≡ true
 sides_unmarked Pend t = refl
 sides_unmarked (Run a) t = refl
 sides_unmarked (Kick h) t = refl
 sides_unmarked w t = absurd t
 
-sides_calm : (w : Word) (op : WordOp) (answer : ℕ) → IsOfSides w → IsCalm w op answer
+pub sides_calm : (w : Word) (op : WordOp) (answer : ℕ) → IsOfSides w → IsCalm w op answer
 sides_calm Pend op answer t = tt
 sides_calm (Run a) op answer t = tt
 sides_calm (Kick h) op answer t = tt
 sides_calm w op answer t = absurd t
 
-sides_plain : (n : ℕ) (w : Word) (op : WordOp) → IsOfSides w → IsPlain n w op
+pub sides_plain : (n : ℕ) (w : Word) (op : WordOp) → IsOfSides w → IsPlain n w op
 sides_plain n Pend op t = tt
 sides_plain n (Run a) op t = tt
 sides_plain n (Kick h) op t = tt
 sides_plain n w op t = absurd t
 
-all_calm : (p : Shown) (r : List Step) → AreAllowed IsOfSides p r → AreCalm p.own.actor r
+pub all_calm : (p : Shown) (r : List Step) → AreAllowed IsOfSides p r → AreCalm p.own.actor r
 all_calm p [] k = tt
 all_calm p (s ∷ r) k = (sides_calm (name_of s.word) s.op s.answer k.0.0, sides_plain p.own.actor (name_of s.word) s.op k.0.0, all_calm p r k.1)
 
