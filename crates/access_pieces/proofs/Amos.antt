@@ -37,7 +37,7 @@ use Rattle.guest_access.specs.Reaching.{CanAccess}
 use Rattle.guest_access.specs.Stepping.{HasStepped, whole_op}
 use Rattle.guest_access.specs.Storing.{HasExchanged}
 use Rattle.access_pieces.specs.Laws.{AmosServe}
-use Rattle.access_pieces.specs.Serving.{ServesBut, MayGiveUp, Served, Settles, Tells, Wants}
+use Rattle.access_pieces.specs.Serving.{ServesBut, MayGiveUp, Served, Counted, Tells, Wants}
 use Rattle.access_pieces.proofs.Awaited.{exec_pages, given_up_pages}
 use Rattle.access_pieces.proofs.GivenUp.{give_up, made_quietly}
 use Rattle.access_pieces.proofs.Atomic.{Atomic, Come, aligned_seen, come, unplaced_served}
@@ -146,12 +146,12 @@ module _ (others : ℕ → Bool) where
 
   module _ (o : Own) (p m q : Shown) (b b' : Book) (c : Arch) (va pa value : ℕ) (op : AmoOp) (u : Setup) (a : ℕ) (l : Log) (can : CanAccess b p) (t : Tells o p b (regime c) u a l) (few : value < 2 ^ 64) where
     whole_served : (by : WordOp) (old : ℕ) → Wants o c (Need.Amo va op true value) → whole_op op ≡ Some by → Come others c (Need.Amo va op true value) Kind.Store va true (amo_at va op true value) (amo c va op true value) o m b' pa u a l → HasStepped by pa value old m q
-        → Ends u a l (Settles others (own_executed (only (Answer.Value old)) o) q b' (regime c) u a)
+        → Ends u a l (Counted others (own_executed (only (Answer.Value old)) o) q b' (regime c) u a)
     whole_served by old wants is k x =
         let s = step_at others m by pa value old in
         let kind = by_amo op by is in
         let y = operates u a k.late m q pa value old k.tells.tells.clear by kind x in
-        ends_then u a l k.late (Settles others (own_executed (only (Answer.Value old)) o) q b' (regime c) u a) k.grows
+        ends_then u a l k.late (Counted others (own_executed (only (Answer.Value old)) o) q b' (regime c) u a) k.grows
         (write_exec others o m q b' (regime c) c (Need.Amo va op true value) (Answer.Value old) k.walk k.walk by pa value old (new_of by old value) u a k.late k.tells x y.0 y.1 wants (hart_there others o p b c u a l can t)
         (aligned_seen others c (Need.Amo va op true value) Kind.Store va true (amo_at va op true value) (amo c va op true value) u.layout.pages a k.walk (made s ∷ k.late) k.aligned
         (seen_quietly u.layout.pages a c Kind.Store va k.walk (s ∷ []) k.late k.seen)) (λ w. (amo c va op true value).calm w a)
@@ -159,14 +159,14 @@ module _ (others : ℕ → Bool) where
 
     module _ (wide : Bool) (wants : Wants o c (Need.Amo va op wide value)) (k : Come others c (Need.Amo va op wide value) Kind.Store va wide (amo_at va op wide value) (amo c va op wide value) o m b' pa u a l) where
       part_served : (seen found : ℕ) → HasExchanged pa seen (new_word op pa wide value seen) found m q → found ≡ seen
-          → Ends u a l (Settles others (own_executed (only (Answer.Value (extended true (width_of wide) (old_number pa wide seen)))) o) q b' (regime c) u a)
+          → Ends u a l (Counted others (own_executed (only (Answer.Value (extended true (width_of wide) (old_number pa wide seen)))) o) q b' (regime c) u a)
       part_served seen found x same =
           let answer = Answer.Value (extended true (width_of wide) (old_number pa wide seen)) in
           let new = new_word op pa wide value seen in
           let y = loaded_in others o m x.mid b' (regime c) pa seen u a k.late k.tells x.loads in
           let middle = made (load_of others m pa seen) ∷ k.late in
           let s = step_at others x.mid (ops.Exchange seen) pa new found in
-          ends_then u a l middle (Settles others (own_executed (only answer) o) q b' (regime c) u a) (grows_then u a l k.late k.grows y.grows)
+          ends_then u a l middle (Counted others (own_executed (only answer) o) q b' (regime c) u a) (grows_then u a l k.late k.grows y.grows)
           (write_exec others o x.mid q b' (regime c) c (Need.Amo va op wide value) answer k.walk k.walk (ops.Exchange seen) pa new found new u a middle y.tells x.exchanges (exchange_may others u a middle x.mid q pa seen new found y.tells.tells.clear x.exchanges)
           (exchange_due others middle x.mid q pa seen new found same x.exchanges) wants (hart_there others o p b c u a l can t)
           (aligned_seen others c (Need.Amo va op wide value) Kind.Store va wide (amo_at va op wide value) (amo c va op wide value) u.layout.pages a k.walk (made s ∷ middle) k.aligned

@@ -30,7 +30,7 @@ use Rattle.turn_pieces.specs.Writers.{quietly}
 use Rattle.turn_pieces.proofs.Writers.{ends_then}
 use Rattle.guest_access.specs.declared.outcomes.Got.{Got}
 use Rattle.guest_access.specs.Atomics.{HasPlaced, at_none, faults, in_ram, is_busy, misaligned, on_device}
-use Rattle.access_pieces.specs.Serving.{MayGiveUp, AwaitsAtMost, Served, Settles, Tells, Wants}
+use Rattle.access_pieces.specs.Serving.{MayGiveUp, AwaitsAtMost, Served, Counted, Tells, Wants}
 use Rattle.access_pieces.proofs.Awaited.{AwaitsBut, exec_pages, given_up_pages, pages_of}
 use Rattle.access_pieces.proofs.GivenUp.{give_up}
 use Rattle.access_pieces.proofs.Arrived.{one_awaits, placed_led}
@@ -72,9 +72,9 @@ module _ (others : ℕ → Bool) where
     -- a fault behind the translation
     fault_served : (o : Own) (p m : Shown) (b b' : Book) (cause tval : ℕ) (s : Spot) (u : Setup) (a : ℕ) (l : Log) → a < u.layout.harts → Wants o c need → is_misaligned wide va ≡ false
         → (late : Log) → Grows u a l late → Tells o m b' (regime c) u a late → owed late ≡ nothing → (walk : Walked) → IsSeen u.layout.pages a c kind va walk late → spot_of kind va walk ≡ s
-        → ((memory : Memory) → outcome memory (one_page (width_of wide) s) ≡ fault_outcome cause tval) → AwaitsBut others (pages_of kind s) u a late → Ends u a l (Settles others (own_executed (only (Answer.Fault cause tval)) o) m b' (regime c) u a)
+        → ((memory : Memory) → outcome memory (one_page (width_of wide) s) ≡ fault_outcome cause tval) → AwaitsBut others (pages_of kind s) u a late → Ends u a l (Counted others (own_executed (only (Answer.Fault cause tval)) o) m b' (regime c) u a)
     fault_served o p m b b' cause tval s u a l hart wants is late grows tells clear walk seen e out awaits =
-        ends_then u a l late (Settles others (own_executed (only (Answer.Fault cause tval)) o) m b' (regime c) u a) grows
+        ends_then u a l late (Counted others (own_executed (only (Answer.Fault cause tval)) o) m b' (regime c) u a) grows
         (quiet_exec others o m b' (regime c) c need (Answer.Fault cause tval) walk walk u a late tells clear wants hart (aligned_seen u.layout.pages a walk late is seen) (λ w. n.calm w a)
         (λ w may. sym (aligned_performs w a walk walk s is e ∙ out w.memory)) (aligned_awaits u a walk s late is e awaits))
 
@@ -82,8 +82,8 @@ module _ (others : ℕ → Bool) where
     pub unplaced_served : (o : Own) (p m : Shown) (b b' : Book) (got : Got) (u : Setup) (a : ℕ) (l : Log) → IsBeside b p → a < u.layout.harts → Wants o c need → Tells o p b (regime c) u a l → owed l ≡ nothing → AwaitsAtMost others u a l
         → HasPlaced p m b b' (regime c) kind va wide (Err got) → Ends u a l (Served others o got m b' (regime c) u a)
     unplaced_served o p m b b' got u a l can hart wants t idle settled (at_none is same book) =
-        subst (λ (y : Shown). Ends u a l (Settles others (own_executed (only (Answer.Fault (misaligned kind) va)) o) y b' (regime c) u a)) (sym same)
-        (subst (λ (y : Book). Ends u a l (Settles others (own_executed (only (Answer.Fault (misaligned kind) va)) o) p y (regime c) u a)) (sym book)
+        subst (λ (y : Shown). Ends u a l (Counted others (own_executed (only (Answer.Fault (misaligned kind) va)) o) y b' (regime c) u a)) (sym same)
+        (subst (λ (y : Book). Ends u a l (Counted others (own_executed (only (Answer.Fault (misaligned kind) va)) o) p y (regime c) u a)) (sym book)
         (quiet_exec others o p b (regime c) c need (Answer.Fault (misaligned kind) va) Walked.PageFault Walked.PageFault u a l t idle wants hart
         (subst (λ (x : Option Wanted). SeenFor u.layout.pages a c x Walked.PageFault Walked.PageFault l) (sym (n.wants ∙ ap (λ (y : Bool). if y then None else Some (record { kind = kind; va = va; width = width_of wide })) is)) tt)
         (λ w. n.calm w a)

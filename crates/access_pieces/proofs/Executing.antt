@@ -35,7 +35,8 @@ use Rattle.turn_pieces.proofs.Writers.{calm_owes, places_did, quietly_grows, qui
 use Rattle.guest_access.specs.Stepping.{HasStepped}
 use Rattle.guest_access.proofs.Areas.{ram_off}
 use Rattle.guest_access.proofs.Keeping.{goes_stepped}
-use Rattle.access_pieces.specs.Serving.{Settles, Tells, Wants, view}
+use Rattle.access_pieces.specs.Serving.{Counted, Tells, Wants, view}
+use Rattle.access_pieces.proofs.Counting.{counted_did}
 use Rattle.access_pieces.proofs.Awaited.{AwaitsBut, awaits_step, exec_pages, exec_paid}
 
 -- whatever pages may wait for a store before
@@ -45,7 +46,7 @@ module _ (others : ℕ → Bool) where
 
   pub quiet_exec : (o : Own) (q : Shown) (b : Book) (r : Regime) (c : Arch) (need : Need) (answer : Answer) (walk second : Walked) (u : Setup) (a : ℕ) (l : Log) → Tells o q b r u a l → owed l ≡ nothing → Wants o c need → a < u.layout.harts
       → SeenFor u.layout.pages a c (access_of need) walk second l → ((w : Surroundings) → flushing w a c need ≡ None) → ((w : Surroundings) → MayBe u a l w → only answer ≡ perform w a c walk second need)
-      → AwaitsBut others (exec_pages need walk second) u a l → Ends u a l (Settles others (own_executed (only answer) o) q b r u a)
+      → AwaitsBut others (exec_pages need walk second) u a l → Ends u a l (Counted others (own_executed (only answer) o) q b r u a)
   quiet_exec o q b r c need answer walk second u a l t none wants hart seen calm right awaits =
       let e = Exec a walk second (only answer) in
       let fit : IsExec u a l walk second (only answer) o = record {
@@ -57,12 +58,15 @@ module _ (others : ℕ → Bool) where
         late = did e ∷ l;
         grows = does e stays (record { own = refl; fit = subst (IsFit u a l e) (sym t.tells.stands.part_is) (hart, fit); pays = subst (λ d. PaysFor a (books l) d e) (sym none) (quiet_only a walk second answer) });
         holds = record {
-          tells = record {
-            tells = tells_did o (view q) u a l e t.tells.stands refl (places_did l e t.tells.none_drawn) (ap (λ d. unstored_did d (did_of e).bytes (unstored l)) none ∙ t.tells.none_left);
-            fills = t.fills;
-            goes = t.goes;
+          settles = record {
+            tells = record {
+              tells = tells_did o (view q) u a l e t.tells.stands refl (places_did l e t.tells.none_drawn) (ap (λ d. unstored_did d (did_of e).bytes (unstored l)) none ∙ t.tells.none_left);
+              fills = t.fills;
+              goes = t.goes;
+            };
+            settled = exec_paid others o c need walk second (only answer) u a l wants t.tells.stands.part_is awaits;
           };
-          settled = exec_paid others o c need walk second (only answer) u a l wants t.tells.stands.part_is awaits;
+          counts = counted_did a l e refl refl;
         };
       }
 

@@ -3,6 +3,7 @@ pub mod Spots
 pub mod Led
 pub mod Sections
 pub mod Arrived
+pub mod Counting
 pub mod Executing
 pub mod Loads
 pub mod Writing

@@ -43,7 +43,7 @@ use Rattle.guest_access.specs.Loading.{HasLoaded, gives_register, in_word, on_de
 use Rattle.guest_access.specs.Reaching.{CanAccess, HasReached, by_one, by_two, first_reached, second_reached}
 use Rattle.guest_access.specs.Stepping.{HasStepped}
 use Rattle.access_pieces.specs.Laws.{IsTold, LoadsServe}
-use Rattle.access_pieces.specs.Serving.{ServesBut, MayGiveUp, Served, Settles, Tells, Wants}
+use Rattle.access_pieces.specs.Serving.{ServesBut, MayGiveUp, Served, Counted, Tells, Wants}
 use Rattle.access_pieces.proofs.Awaited.{AwaitsBut, exec_pages}
 use Rattle.access_pieces.proofs.GivenUp.{give_up}
 use Rattle.access_pieces.proofs.Arrived.{Arrived, IsReached, arrived, reached_as}
@@ -67,10 +67,10 @@ module _ (others : ℕ → Bool) where
 
   -- an answer without another step
   answered : (o : Own) (p m : Shown) (b b' : Book) (c : Arch) (va width : ℕ) (sign : Bool) (x : Result Place Got) (answer : Answer) (u : Setup) (a : ℕ) (l : Log) → CanAccess b p → Wants o c (Need.Load va width sign) → Tells o p b (regime c) u a l
-      → Arrived others o m b' c Kind.Load va width x u a l → IsReached others x → ((memory : Memory) → only answer ≡ load_outcome memory va width sign (reached_as others width x)) → Ends u a l (Settles others (own_executed (only answer) o) m b' (regime c) u a)
+      → Arrived others o m b' c Kind.Load va width x u a l → IsReached others x → ((memory : Memory) → only answer ≡ load_outcome memory va width sign (reached_as others width x)) → Ends u a l (Counted others (own_executed (only answer) o) m b' (regime c) u a)
   answered o p m b b' c va width sign x answer u a l can wants t ar ok is =
       let sh = ar.shows ok in
-      ends_then u a l ar.late (Settles others (own_executed (only answer) o) m b' (regime c) u a) ar.grows
+      ends_then u a l ar.late (Counted others (own_executed (only answer) o) m b' (regime c) u a) ar.grows
       (quiet_exec others o m b' (regime c) c (Need.Load va width sign) answer sh.walk sh.second u a ar.late ar.tells ar.clear wants (hart_there o p b c u a l can t) sh.seen (λ w. no_flush w a c va width sign)
       (λ w may. is w.memory ∙ load_as w a c va width sign sh.walk sh.second (reached_as others width x) sh.reach_is) (ar.awaits ok))
 
@@ -84,13 +84,13 @@ module _ (others : ℕ → Bool) where
   -- within a word
   word_served : (o : Own) (p m q : Shown) (b b' : Book) (c : Arch) (va width pa word : ℕ) (sign : Bool) (u : Setup) (a : ℕ) (l : Log) → CanAccess b p → Wants o c (Need.Load va width sign) → Tells o p b (regime c) u a l
       → Arrived others o m b' c Kind.Load va width (Ok (at.Word pa)) u a l → HasStepped Load pa 0 word m q
-      → Ends u a l (Settles others (own_executed (only (Answer.Value (extended sign width (number_in word (pa % 8) width)))) o) q b' (regime c) u a)
+      → Ends u a l (Counted others (own_executed (only (Answer.Value (extended sign width (number_in word (pa % 8) width)))) o) q b' (regime c) u a)
   word_served o p m q b b' c va width pa word sign u a l can wants t ar x =
       let sh = ar.shows tt in
       let answer = Answer.Value (extended sign width (number_in word (pa % 8) width)) in
       let y = loaded_in others o m q b' (regime c) pa word u a ar.late ar.tells x in
       let late = made (load_of others m pa word) ∷ ar.late in
-      ends_then u a l late (Settles others (own_executed (only answer) o) q b' (regime c) u a) (grows_then u a l ar.late ar.grows y.grows)
+      ends_then u a l late (Counted others (own_executed (only answer) o) q b' (regime c) u a) (grows_then u a l ar.late ar.grows y.grows)
       (quiet_exec others o q b' (regime c) c (Need.Load va width sign) answer sh.walk sh.second u a late y.tells y.clear wants (hart_there o p b c u a l can t) (seen_made u a c va width sh.walk sh.second ar.late (load_of others m pa word) sh.seen) (λ w. no_flush w a c va width sign)
       (λ w may. ap (λ n. only (Answer.Value (extended sign width (number_in n (pa % 8) width)))) (sym (held_here others u a ar.late m q pa word w x may))
       ∙ load_as w a c va width sign sh.walk sh.second (reached_as others width (Ok (at.Word pa))) sh.reach_is)
@@ -119,7 +119,7 @@ module _ (others : ℕ → Bool) where
 
   words_served : (o : Own) (p m next q : Shown) (b b' : Book) (c : Arch) (va width first second low high : ℕ) (sign : Bool) (u : Setup) (a : ℕ) (l : Log) → CanAccess b p → Wants o c (Need.Load va width sign) → Tells o p b (regime c) u a l
       → Arrived others o m b' c Kind.Load va width (Ok (at.Words first second)) u a l → InSection m → HasStepped Load first 0 low m next → HasStepped Load second 0 high next q
-      → Ends u a l (Settles others (own_executed (only (Answer.Value (extended sign width (number_in (low + 2 ^ 64 * high) (first % 8) width)))) o) q b' (regime c) u a)
+      → Ends u a l (Counted others (own_executed (only (Answer.Value (extended sign width (number_in (low + 2 ^ 64 * high) (first % 8) width)))) o) q b' (regime c) u a)
   unfolding both_late
   words_served o p m next q b b' c va width first second low high sign u a l can wants t ar section x y =
       let sh = ar.shows tt in
@@ -129,7 +129,7 @@ module _ (others : ℕ → Bool) where
       let g = loaded_in others o next q b' (regime c) second high u a middle f.tells y in
       let late = made (load_of others next second high) ∷ middle in
       let inside : InSection q = section_stepped Load second 0 high next q y (section_stepped Load first 0 low m next x section) in
-      ends_then u a l late (Settles others (own_executed (only answer) o) q b' (regime c) u a) (grows_then u a l middle (grows_then u a l ar.late ar.grows f.grows) g.grows)
+      ends_then u a l late (Counted others (own_executed (only answer) o) q b' (regime c) u a) (grows_then u a l middle (grows_then u a l ar.late ar.grows f.grows) g.grows)
       (quiet_exec others o q b' (regime c) c (Need.Load va width sign) answer sh.walk sh.second u a late g.tells g.clear wants (hart_there o p b c u a l can t)
       (seen_made u a c va width sh.walk sh.second middle (load_of others next second high) (seen_made u a c va width sh.walk sh.second ar.late (load_of others m first low) sh.seen)) (λ w. no_flush w a c va width sign)
       (λ w may.

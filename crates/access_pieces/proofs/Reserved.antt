@@ -26,7 +26,7 @@ use Rattle.guest_access.specs.Atomics.{HasConditional, HasReserved, held_word, o
 use Rattle.guest_access.specs.Reaching.{CanAccess}
 use Rattle.guest_access.specs.Stepping.{HasStepped}
 use Rattle.access_pieces.specs.Laws.{ConditionalsServe, ReservesServe}
-use Rattle.access_pieces.specs.Serving.{ServesBut, Served, Settles, Tells, Wants}
+use Rattle.access_pieces.specs.Serving.{ServesBut, Served, Counted, Tells, Wants}
 use Rattle.access_pieces.proofs.Awaited.{exec_pages}
 use Rattle.access_pieces.proofs.Atomic.{Atomic, Come, aligned_seen, come, unplaced_served}
 use Rattle.access_pieces.proofs.Executing.{awaits_stepped, exchange_held, held_here, load_of, loaded_in, lost_in, quiet_exec, step_at}
@@ -53,12 +53,12 @@ module _ (others : ℕ → Bool) where
 
   reserve_served : (o : Own) (p m q : Shown) (b b' : Book) (c : Arch) (va pa word : ℕ) (wide : Bool) (u : Setup) (a : ℕ) (l : Log) → CanAccess b p → Wants o c (Need.Lr va wide) → Tells o p b (regime c) u a l
       → Come others c (Need.Lr va wide) Kind.Load va wide (λ memory at. lr_outcome memory va wide at) (reserve c va wide) o m b' pa u a l → HasStepped Load pa 0 word m q
-      → Ends u a l (Settles others (own_executed (only (Answer.LrValue (extended true (width_of wide) (old_number pa wide word)) (record { pa = pa; wide = wide; word = word }))) o) q b' (regime c) u a)
+      → Ends u a l (Counted others (own_executed (only (Answer.LrValue (extended true (width_of wide) (old_number pa wide word)) (record { pa = pa; wide = wide; word = word }))) o) q b' (regime c) u a)
   reserve_served o p m q b b' c va pa word wide u a l can wants t k x =
       let answer = Answer.LrValue (extended true (width_of wide) (old_number pa wide word)) (record { pa = pa; wide = wide; word = word }) in
       let y = loaded_in others o m q b' (regime c) pa word u a k.late k.tells x in
       let late = made (load_of others m pa word) ∷ k.late in
-      ends_then u a l late (Settles others (own_executed (only answer) o) q b' (regime c) u a) (grows_then u a l k.late k.grows y.grows)
+      ends_then u a l late (Counted others (own_executed (only answer) o) q b' (regime c) u a) (grows_then u a l k.late k.grows y.grows)
       (quiet_exec others o q b' (regime c) c (Need.Lr va wide) answer k.walk k.walk u a late y.tells y.clear wants (hart_there others o p b c u a l can t)
       (aligned_seen others c (Need.Lr va wide) Kind.Load va wide (λ memory at. lr_outcome memory va wide at) (reserve c va wide) u.layout.pages a k.walk late k.aligned
       (seen_quietly u.layout.pages a c Kind.Load va k.walk (load_of others m pa word ∷ []) k.late k.seen)) (λ w. (reserve c va wide).calm w a)
@@ -114,12 +114,12 @@ module _ (others : ℕ → Bool) where
   module _ (o : Own) (p m q : Shown) (b b' : Book) (c : Arch) (va pa word value found : ℕ) (wide : Bool) (u : Setup) (a : ℕ) (l : Log) (can : CanAccess b p) (wants : Wants o c (Need.Sc va wide value)) (t : Tells o p b (regime c) u a l)
       (k : Come others c (Need.Sc va wide value) Kind.Store va wide (sc_at c va wide value) (conditional c va wide value) o m b' pa u a l) (hold : held_word c.hold pa wide ≡ Some word)
       (x : HasStepped (Exchange word) pa (replaced word (pa % 8) (width_of wide) value) found m q) where
-    exchanged_by : (same : Bool) → (found == word) ≡ same → Ends u a l (Settles others (own_executed (only (Answer.Sc same)) o) q b' (regime c) u a)
+    exchanged_by : (same : Bool) → (found == word) ≡ same → Ends u a l (Counted others (own_executed (only (Answer.Sc same)) o) q b' (regime c) u a)
     exchanged_by true e =
         let is : found ≡ word = eqb-true found word e in
         let new = replaced word (pa % 8) (width_of wide) value in
         let s = step_at others m (Exchange word) pa new found in
-        ends_then u a l k.late (Settles others (own_executed (only (Answer.Sc true)) o) q b' (regime c) u a) k.grows
+        ends_then u a l k.late (Counted others (own_executed (only (Answer.Sc true)) o) q b' (regime c) u a) k.grows
         (write_exec others o m q b' (regime c) c (Need.Sc va wide value) (Answer.Sc true) k.walk k.walk (Exchange word) pa new found new u a k.late k.tells x (exchange_may others u a k.late m q pa word new found k.tells.tells.clear x)
         (exchange_due others k.late m q pa word new found is x) wants (hart_there others o p b c u a l can t)
         (aligned_seen others c (Need.Sc va wide value) Kind.Store va wide (sc_at c va wide value) (conditional c va wide value) u.layout.pages a k.walk (made s ∷ k.late) k.aligned
@@ -131,7 +131,7 @@ module _ (others : ℕ → Bool) where
         let s = step_at others m (Exchange word) pa new found in
         let y = lost_in others o m q b' (regime c) pa word new found u a k.late k.tells other x in
         let late = made s ∷ k.late in
-        ends_then u a l late (Settles others (own_executed (only (Answer.Sc false)) o) q b' (regime c) u a) (grows_then u a l k.late k.grows y.grows)
+        ends_then u a l late (Counted others (own_executed (only (Answer.Sc false)) o) q b' (regime c) u a) (grows_then u a l k.late k.grows y.grows)
         (quiet_exec others o q b' (regime c) c (Need.Sc va wide value) (Answer.Sc false) k.walk k.walk u a late y.tells y.clear wants (hart_there others o p b c u a l can t)
         (aligned_seen others c (Need.Sc va wide value) Kind.Store va wide (sc_at c va wide value) (conditional c va wide value) u.layout.pages a k.walk late k.aligned
         (seen_quietly u.layout.pages a c Kind.Store va k.walk (s ∷ []) k.late k.seen)) (λ w. (conditional c va wide value).calm w a)
@@ -141,9 +141,9 @@ module _ (others : ℕ → Bool) where
 
   refused_served : (o : Own) (p m : Shown) (b b' : Book) (c : Arch) (va pa value : ℕ) (wide : Bool) (u : Setup) (a : ℕ) (l : Log) → CanAccess b p → Wants o c (Need.Sc va wide value) → Tells o p b (regime c) u a l
       → Come others c (Need.Sc va wide value) Kind.Store va wide (sc_at c va wide value) (conditional c va wide value) o m b' pa u a l → held_word c.hold pa wide ≡ None
-      → Ends u a l (Settles others (own_executed (only (Answer.Sc false)) o) m b' (regime c) u a)
+      → Ends u a l (Counted others (own_executed (only (Answer.Sc false)) o) m b' (regime c) u a)
   refused_served o p m b b' c va pa value wide u a l can wants t k hold =
-      ends_then u a l k.late (Settles others (own_executed (only (Answer.Sc false)) o) m b' (regime c) u a) k.grows
+      ends_then u a l k.late (Counted others (own_executed (only (Answer.Sc false)) o) m b' (regime c) u a) k.grows
       (quiet_exec others o m b' (regime c) c (Need.Sc va wide value) (Answer.Sc false) k.walk k.walk u a k.late k.tells k.clear wants (hart_there others o p b c u a l can t)
       (aligned_seen others c (Need.Sc va wide value) Kind.Store va wide (sc_at c va wide value) (conditional c va wide value) u.layout.pages a k.walk k.late k.aligned k.seen) (λ w. (conditional c va wide value).calm w a)
       (λ w may. refused_as w.memory c va pa value wide (stands_not w.memory c.hold pa wide k.above hold) ∙ sym (k.performed w)) k.awaits)

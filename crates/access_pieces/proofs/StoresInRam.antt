@@ -48,10 +48,11 @@ use Rattle.guest_access.specs.Stepping.{HasStepped}
 use Rattle.guest_access.specs.Storing.{HasExchanged, HasStoredIn, HasStoredOver, lost, part, replaced_both, whole}
 use Rattle.guest_access.proofs.Areas.{ram_off}
 use Rattle.guest_access.proofs.Keeping.{goes_stepped}
-use Rattle.access_pieces.specs.Serving.{MayGiveUp, AwaitsAtMost, Served, Settles, Tells, Wants, view}
+use Rattle.access_pieces.specs.Serving.{MayGiveUp, AwaitsAtMost, Served, Counted, Tells, Wants, view}
 use Rattle.access_pieces.proofs.Awaited.{exec_pages, exec_paid, given_up_pages}
 use Rattle.access_pieces.proofs.GivenUp.{give_up, made_quietly}
 use Rattle.access_pieces.proofs.Arrived.{Arrived, IsReached, reached_as}
+use Rattle.access_pieces.proofs.Counting.{counted_did}
 use Rattle.access_pieces.proofs.Executing.{awaits_stepped, exchange_held, load_of, loaded_in, lost_in, quiet_exec, step_at}
 use Rattle.access_pieces.proofs.Loads.{IsEnd, hart_there, unreached_given_up}
 use Rattle.access_pieces.proofs.Sections.{InSection, section_stepped, words_apart}
@@ -77,10 +78,10 @@ module _ (others : ℕ → Bool) where
 
   -- an answer without another step
   pub store_answered : (o : Own) (p m : Shown) (b b' : Book) (c : Arch) (va width value : ℕ) (x : Result Place Got) (answer : Answer) (u : Setup) (a : ℕ) (l : Log) → CanAccess b p → Wants o c (Need.Store va width value) → Tells o p b (regime c) u a l
-      → Arrived others o m b' c Kind.Store va width x u a l → IsReached others x → ((memory : Memory) (room : ℕ) → only answer ≡ store_outcome memory room va width value (reached_as others width x)) → Ends u a l (Settles others (own_executed (only answer) o) m b' (regime c) u a)
+      → Arrived others o m b' c Kind.Store va width x u a l → IsReached others x → ((memory : Memory) (room : ℕ) → only answer ≡ store_outcome memory room va width value (reached_as others width x)) → Ends u a l (Counted others (own_executed (only answer) o) m b' (regime c) u a)
   store_answered o p m b b' c va width value x answer u a l can wants t ar ok is =
       let sh = ar.shows ok in
-      ends_then u a l ar.late (Settles others (own_executed (only answer) o) m b' (regime c) u a) ar.grows
+      ends_then u a l ar.late (Counted others (own_executed (only answer) o) m b' (regime c) u a) ar.grows
       (quiet_exec others o m b' (regime c) c (Need.Store va width value) answer sh.walk sh.second u a ar.late ar.tells ar.clear wants (hart_there others o p b c u a l can t) sh.seen (λ w. no_store_flush w a c va width value)
       (λ w may. is w.memory w.room ∙ store_as w a c va width value sh.walk sh.second (reached_as others width x) sh.reach_is) (ar.awaits ok))
 
@@ -106,23 +107,23 @@ module _ (others : ℕ → Bool) where
     written_as : (w : Surroundings) (new : ℕ) → new ≡ replaced (w.memory (ram_word pa)) (pa % 8) width value → wrote others (ram_word pa) new Answer.Nothing ≡ perform w a c (ar.shows tt).walk (ar.shows tt).second (Need.Store va width value)
     written_as w new e = ap (λ n. wrote others (ram_word pa) n Answer.Nothing) e ∙ store_as w a c va width value (ar.shows tt).walk (ar.shows tt).second (reached_as others width (Ok (at.Word pa))) (ar.shows tt).reach_is
 
-    whole_stored : width ≡ 8 → HasStepped Store pa value 0 m q → Ends u a l (Settles others (own_executed (only Answer.Nothing) o) q b' (regime c) u a)
+    whole_stored : width ≡ 8 → HasStepped Store pa value 0 m q → Ends u a l (Counted others (own_executed (only Answer.Nothing) o) q b' (regime c) u a)
     whole_stored eight x =
         let sh = ar.shows tt in
         let s = step_at others m Store pa value 0 in
-        ends_then u a l ar.late (Settles others (own_executed (only Answer.Nothing) o) q b' (regime c) u a) ar.grows
+        ends_then u a l ar.late (Counted others (own_executed (only Answer.Nothing) o) q b' (regime c) u a) ar.grows
         (write_exec others o m q b' (regime c) c (Need.Store va width value) Answer.Nothing sh.walk sh.second Store pa value 0 value u a ar.late ar.tells x (store_may others u a ar.late m q pa value ar.tells.tells.clear x) (store_due others u a ar.late m q pa value ar.tells.tells.clear x)
         wants (hart_there others o p b c u a l can t) (seen_more u.layout.pages a c va width sh.walk sh.second (s ∷ []) ar.late sh.seen) (λ w. no_store_flush w a c va width value)
         (λ w may. written_as w value (whole_word (w.memory (ram_word pa)) pa width value eight within (may.words (ram_word pa)) few)) (ar.awaits tt))
 
-    part_stored : (seen found : ℕ) → HasExchanged pa seen (replaced seen (pa % 8) width value) found m q → found ≡ seen → Ends u a l (Settles others (own_executed (only Answer.Nothing) o) q b' (regime c) u a)
+    part_stored : (seen found : ℕ) → HasExchanged pa seen (replaced seen (pa % 8) width value) found m q → found ≡ seen → Ends u a l (Counted others (own_executed (only Answer.Nothing) o) q b' (regime c) u a)
     part_stored seen found x same =
         let sh = ar.shows tt in
         let new = replaced seen (pa % 8) width value in
         let y = loaded_in others o m x.mid b' (regime c) pa seen u a ar.late ar.tells x.loads in
         let middle = made (load_of others m pa seen) ∷ ar.late in
         let s = step_at others x.mid (Exchange seen) pa new found in
-        ends_then u a l middle (Settles others (own_executed (only Answer.Nothing) o) q b' (regime c) u a) (grows_then u a l ar.late ar.grows y.grows)
+        ends_then u a l middle (Counted others (own_executed (only Answer.Nothing) o) q b' (regime c) u a) (grows_then u a l ar.late ar.grows y.grows)
         (write_exec others o x.mid q b' (regime c) c (Need.Store va width value) Answer.Nothing sh.walk sh.second (Exchange seen) pa new found new u a middle y.tells x.exchanges (exchange_may others u a middle x.mid q pa seen new found y.tells.tells.clear x.exchanges)
         (exchange_due others middle x.mid q pa seen new found same x.exchanges) wants (hart_there others o p b c u a l can t) (seen_more u.layout.pages a c va width sh.walk sh.second (s ∷ load_of others m pa seen ∷ []) ar.late sh.seen) (λ w. no_store_flush w a c va width value)
         (λ w may. written_as w new (ap (λ n. replaced n (pa % 8) width value) (sym (exchange_held others u a middle x.mid q pa seen new found w x.exchanges may ∙ same))))
@@ -215,7 +216,7 @@ module _ (others : ℕ → Bool) where
     in_log : (r : Shown) (k : Log) → writers.Stands o (view r) u a k → InSection r → IsInSection u.layout a (steps_of k)
     in_log r k st i = subst (IsInSection u.layout a) (sym st.is) (subst (λ (n : ℕ). IsInSection u.layout n r.own.steps) (sym st.actor) (subst (λ (y : Layout). IsInSection y r.own.actor r.own.steps) (sym st.layout) i))
 
-    pub words_stored : Ends u a l (Settles others (own_executed (only Answer.Nothing) o) q b' (regime c) u a)
+    pub words_stored : Ends u a l (Counted others (own_executed (only Answer.Nothing) o) q b' (regime c) u a)
     unfolding both_stored s1 s2 s3 s4 low_new high_new crossing
     words_stored =
         let sh = ar.shows tt in
@@ -254,16 +255,19 @@ module _ (others : ℕ → Bool) where
         let settled : AwaitsAtMost others u a (did e ∷ k4) = exec_paid others o c need sh.walk sh.second out u a k4 wants st4.part_is
         (awaits_stepped others pages u a k3 x.three q Store second high_new 0 x.stores_second (awaits_stepped others pages u a k2 x.two x.three Store first low_new 0 x.stores_first
         (awaits_stepped others pages u a (made s1 ∷ ar.late) x.one x.two Load second 0 x.high x.loads_second (awaits_stepped others pages u a ar.late m x.one Load first 0 x.low x.loads_first (ar.awaits tt))))) in
-        subst (λ (y : Own). Ends u a l (Settles others y q b' (regime c) u a)) (crossing_own o (ram_word first) low_new (ram_word second) high_new) (record {
+        subst (λ (y : Own). Ends u a l (Counted others y q b' (regime c) u a)) (crossing_own o (ram_word first) low_new (ram_word second) high_new) (record {
           late = did e ∷ k4;
           grows = grows;
           holds = record {
-            settled = settled;
-            tells = record {
-              tells = tells_did o (view q) u a k4 e st4 refl (places_did k4 e drawn) ((λ i. unstored_did (due i) (did_of e).bytes (left i)));
-              fills = g.tells.fills;
-              goes = fills_stay x.three q b' (regime c) (flushes_in a k3) g.tells.fills (s4 ∷ []) (ap (λ (y : Shown). y.own.steps) x.stores_second.step) (same_goes 1 IsOfRam x.three q ram_off (goes_stepped Store second high_new 0 x.three q x.stores_second))
-                  (fills_stay x.two x.three b' (regime c) (flushes_in a k2) g.tells.fills (s3 ∷ []) (ap (λ (y : Shown). y.own.steps) x.stores_first.step) (same_goes 1 IsOfRam x.two x.three ram_off (goes_stepped Store first low_new 0 x.two x.three x.stores_first)) g.tells.goes);
+            settles = record {
+              settled = settled;
+              tells = record {
+                tells = tells_did o (view q) u a k4 e st4 refl (places_did k4 e drawn) ((λ i. unstored_did (due i) (did_of e).bytes (left i)));
+                fills = g.tells.fills;
+                goes = fills_stay x.three q b' (regime c) (flushes_in a k3) g.tells.fills (s4 ∷ []) (ap (λ (y : Shown). y.own.steps) x.stores_second.step) (same_goes 1 IsOfRam x.three q ram_off (goes_stepped Store second high_new 0 x.three q x.stores_second))
+                    (fills_stay x.two x.three b' (regime c) (flushes_in a k2) g.tells.fills (s3 ∷ []) (ap (λ (y : Shown). y.own.steps) x.stores_first.step) (same_goes 1 IsOfRam x.two x.three ram_off (goes_stepped Store first low_new 0 x.two x.three x.stores_first)) g.tells.goes);
+              };
             };
+            counts = counted_did a k4 e refl refl;
           };
         })

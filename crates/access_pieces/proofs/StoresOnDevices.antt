@@ -50,9 +50,10 @@ use Rattle.guest_access.specs.Storing.{gives_stored}
 use Rattle.guest_access.proofs.Areas.{devices_off}
 use Rattle.guest_devices.specs.Output.{HasPut, HasFoundFull, HasPrinted, HasSetStop, full, put}
 use Rattle.guest_devices.specs.Stores.{HasStoredOn, IsOfDevices, ends, ignores, outside, puts_byte}
-use Rattle.access_pieces.specs.Serving.{AwaitsAtMost, Served, Settles, Tells, Wants, view}
+use Rattle.access_pieces.specs.Serving.{AwaitsAtMost, Counted, Served, Tells, Wants, view}
 use Rattle.access_pieces.proofs.Awaited.{awaits_step, exec_pages, exec_paid}
 use Rattle.access_pieces.proofs.Arrived.{Arrived}
+use Rattle.access_pieces.proofs.Counting.{counted_did}
 use Rattle.access_pieces.proofs.Loads.{hart_there}
 use Rattle.access_pieces.proofs.StoresInRam.{no_store_flush, seen_more, store_answered, store_as}
 
@@ -100,7 +101,7 @@ module _ (others : ℕ → Bool) where
     cut_none : (ds bs : List ℕ) → ds ≡ [] → bs ≡ [] → IsCutShort ds bs
     cut_none ds bs d e = subst (λ x. IsCutShort x bs) (sym d) (subst (IsCutShort []) (sym e) (record { none = λ _. refl; some = λ i k. cc }))
 
-    stop_served : (reason stands : Reason) (q : Shown) → device_stored pa width value ≡ Some (DeviceStore.Ends reason) → HasSetStop reason stands m q → Ends u a l (Settles others (own_executed (only Answer.Nothing) o) q b' (regime c) u a)
+    stop_served : (reason stands : Reason) (q : Shown) → device_stored pa width value ≡ Some (DeviceStore.Ends reason) → HasSetStop reason stands m q → Ends u a l (Counted others (own_executed (only Answer.Nothing) o) q b' (regime c) u a)
     stop_served reason stands q is x =
         let sh = ar.shows tt in
         let v = x.exchanges in
@@ -113,7 +114,7 @@ module _ (others : ℕ → Bool) where
         let left : unstored k ≡ None = ap (λ w. unstored_next w (Exchange 0) x.found [] (unstored ar.late)) v.name ∙ ar.tells.tells.none_left in
         let due : owed k ≡ gives (reason_word reason) = owed_named ar.late s Stop (Exchange 0) v.name refl in
         let fit = fits_at (gave reason) (s ∷ []) (λ w z. ap (device_store_outcome w.room va) (sym is)) in
-        subst (λ (y : Own). Ends u a l (Settles others y q b' (regime c) u a)) (gave_own o reason) (record {
+        subst (λ (y : Own). Ends u a l (Counted others y q b' (regime c) u a)) (gave_own o reason) (record {
           late = did e ∷ k;
           grows = does e (makes s ar.grows (free u a ar.late ar.tells.tells.clear s Stop (Exchange 0) v.name refl refl tt tt)) (record {
             own = refl;
@@ -126,8 +127,11 @@ module _ (others : ℕ → Bool) where
             });
           });
           holds = record {
-            tells = record { tells = tells_did o (view q) u a k e st refl refl ((λ i. unstored_did (due i) [] (left i))); fills = ar.tells.fills; goes = fills_on m q Stop (Exchange 0) (reason_word reason) x.found (flushes_in a ar.late) ar.tells.fills v tt ar.tells.goes };
-            settled = exec_paid others o c need sh.walk sh.second (gave reason) u a k wants st.part_is (awaits_step others (exec_pages need sh.walk sh.second) u a ar.late s (ap is_other v.name) (ar.awaits tt));
+            settles = record {
+              tells = record { tells = tells_did o (view q) u a k e st refl refl ((λ i. unstored_did (due i) [] (left i))); fills = ar.tells.fills; goes = fills_on m q Stop (Exchange 0) (reason_word reason) x.found (flushes_in a ar.late) ar.tells.fills v tt ar.tells.goes };
+              settled = exec_paid others o c need sh.walk sh.second (gave reason) u a k wants st.part_is (awaits_step others (exec_pages need sh.walk sh.second) u a ar.late s (ap is_other v.name) (ar.awaits tt));
+            };
+            counts = counted_did a k e refl refl;
           };
         })
 
@@ -146,7 +150,7 @@ module _ (others : ℕ → Bool) where
         by i k = (omega (arith, le, k), omega (arith, le, k))
 
     full_served : (byte place : ℕ) (stands : Reason) (mid q : Shown) → may_draw (steps_of ar.late) ≡ true → device_stored pa width value ≡ Some (DeviceStore.PutsByte byte) → HasFoundFull place m mid → HasSetStop Reason.OutFull stands mid q
-        → Ends u a l (Settles others (own_executed (only Answer.Nothing) o) q b' (regime c) u a)
+        → Ends u a l (Counted others (own_executed (only Answer.Nothing) o) q b' (regime c) u a)
     full_served byte place stands mid q may is x y =
         let sh = ar.shows tt in
         let v = x.draws in
@@ -173,7 +177,7 @@ module _ (others : ℕ → Bool) where
         let pages = exec_pages need sh.walk sh.second in
         let settled : AwaitsAtMost others u a (did e ∷ k) = exec_paid others o c need sh.walk sh.second (gave Reason.OutFull) u a k wants st.part_is
         (awaits_step others pages u a k1 d (ap is_other z.name) (awaits_step others pages u a ar.late s (ap is_other v.name) (ar.awaits tt))) in
-        subst (λ (g : Own). Ends u a l (Settles others g q b' (regime c) u a)) (gave_own o Reason.OutFull) (record {
+        subst (λ (g : Own). Ends u a l (Counted others g q b' (regime c) u a)) (gave_own o Reason.OutFull) (record {
           late = did e ∷ k;
           grows = does e (makes d (makes s ar.grows (free u a ar.late ar.tells.tells.clear s Cons Add v.name refl refl tt may)) (free u a k1 clear d Stop (Exchange 0) z.name refl refl tt tt)) (record {
             own = refl;
@@ -186,17 +190,20 @@ module _ (others : ℕ → Bool) where
             });
           });
           holds = record {
-            settled = settled;
-            tells = record {
-              tells = tells_did o (view q) u a k e st refl refl ((λ i. unstored_did (due i) [] (left i)));
-              fills = ar.tells.fills;
-              goes = fills_on mid q Stop (Exchange 0) 4 y.found (flushes_in a k1) ar.tells.fills z tt (fills_on m mid Cons Add 1 place (flushes_in a ar.late) ar.tells.fills v tt ar.tells.goes);
+            settles = record {
+              settled = settled;
+              tells = record {
+                tells = tells_did o (view q) u a k e st refl refl ((λ i. unstored_did (due i) [] (left i)));
+                fills = ar.tells.fills;
+                goes = fills_on mid q Stop (Exchange 0) 4 y.found (flushes_in a k1) ar.tells.fills z tt (fills_on m mid Cons Add 1 place (flushes_in a ar.late) ar.tells.fills v tt ar.tells.goes);
+              };
             };
+            counts = counted_did a k e refl refl;
           };
         })
 
     -- a byte is printed at its draw, and stored
-    put_served : (byte : ℕ) (q : Shown) → may_draw (steps_of ar.late) ≡ true → device_stored pa width value ≡ Some (DeviceStore.PutsByte byte) → HasPut byte m q → Ends u a l (Settles others (own_executed (only Answer.Nothing) o) q b' (regime c) u a)
+    put_served : (byte : ℕ) (q : Shown) → may_draw (steps_of ar.late) ≡ true → device_stored pa width value ≡ Some (DeviceStore.PutsByte byte) → HasPut byte m q → Ends u a l (Counted others (own_executed (only Answer.Nothing) o) q b' (regime c) u a)
     put_served byte q may is x =
         let sh = ar.shows tt in
         let v = x.draws in
@@ -219,7 +226,7 @@ module _ (others : ℕ → Bool) where
         let clear : owed (made d ∷ k2) ≡ nothing = owed_named k2 d (Console x.place) Store z.name refl ∙ ap owes_byte some in
         let settled : AwaitsAtMost others u a k2 = exec_paid others o c need sh.walk sh.second (printed byte) u a k1 wants st1.part_is
         (awaits_step others (exec_pages need sh.walk sh.second) u a ar.late s (ap is_other v.name) (ar.awaits tt)) in
-        subst (λ (g : Own). Ends u a l (Settles others g q b' (regime c) u a)) (printed_own o byte) (record {
+        subst (λ (g : Own). Ends u a l (Counted others g q b' (regime c) u a)) (printed_own o byte) (record {
           late = made d ∷ k2;
           grows = makes d (does e (makes s ar.grows (free u a ar.late ar.tells.tells.clear s Cons Add v.name refl refl tt may)) (record {
             own = refl;
@@ -233,28 +240,31 @@ module _ (others : ℕ → Bool) where
           }))
               (free u a k2 (clear_did (owed k1)) d (Console x.place) Store z.name refl (inl (byte, some, refl, refl)) tt tt);
           holds = record {
-            settled = λ page free. unmarked_step u a page k2 d (ap is_other z.name) ∙ settled page free;
-            tells = record {
+            settles = record {
+              settled = λ page free. unmarked_step u a page k2 d (ap is_other z.name) ∙ settled page free;
               tells = record {
-                stands = step_stands (own_executed (printed byte) o) (view x.mid) (view q) u a k2 d (ap view z.step) st2;
-                clear = subst IsClear (sym clear) tt;
-                none_drawn = ap (λ w. drawn_next w Store 0 (places k2)) z.name;
-                none_left = ap (λ w. unstored_next w Store 0 [] (unstored k2)) z.name;
+                tells = record {
+                  stands = step_stands (own_executed (printed byte) o) (view x.mid) (view q) u a k2 d (ap view z.step) st2;
+                  clear = subst IsClear (sym clear) tt;
+                  none_drawn = ap (λ w. drawn_next w Store 0 (places k2)) z.name;
+                  none_left = ap (λ w. unstored_next w Store 0 [] (unstored k2)) z.name;
+                };
+                fills = ar.tells.fills;
+                goes = fills_on x.mid q (Console x.place) Store (byte + 2 ^ 8) 0 (flushes_in a k1) ar.tells.fills z tt (fills_on m x.mid Cons Add 1 x.place (flushes_in a ar.late) ar.tells.fills v tt ar.tells.goes);
               };
-              fills = ar.tells.fills;
-              goes = fills_on x.mid q (Console x.place) Store (byte + 2 ^ 8) 0 (flushes_in a k1) ar.tells.fills z tt (fills_on m x.mid Cons Add 1 x.place (flushes_in a ar.late) ar.tells.fills v tt ar.tells.goes);
             };
+            counts = counted_did a k1 e refl refl;
           };
         })
 
-    printed_served : (byte : ℕ) (q : Shown) → may_draw (steps_of ar.late) ≡ true → device_stored pa width value ≡ Some (DeviceStore.PutsByte byte) → HasPrinted byte m q → Ends u a l (Settles others (own_executed (only Answer.Nothing) o) q b' (regime c) u a)
+    printed_served : (byte : ℕ) (q : Shown) → may_draw (steps_of ar.late) ≡ true → device_stored pa width value ≡ Some (DeviceStore.PutsByte byte) → HasPrinted byte m q → Ends u a l (Counted others (own_executed (only Answer.Nothing) o) q b' (regime c) u a)
     printed_served byte q may is (put x) = put_served byte q may is x
     printed_served byte q may is (full {mid} place stands x y) = full_served byte place stands mid q may is x y
 
     pub device_stored_on : (result : Option (Unit {0})) (q : Shown) → may_draw (steps_of ar.late) ≡ true → HasStoredOn pa width value result m q → Ends u a l (Served others o (gives_stored va result) q b' (regime c) u a)
     device_stored_on result q may (puts_byte byte is x) = printed_served byte q may is x
     device_stored_on result q may (ends reason stands is x) = stop_served reason stands q is x
-    device_stored_on result q may (ignores is same) = subst (λ (y : Shown). Ends u a l (Settles others (own_executed (only Answer.Nothing) o) y b' (regime c) u a)) (sym same)
+    device_stored_on result q may (ignores is same) = subst (λ (y : Shown). Ends u a l (Counted others (own_executed (only Answer.Nothing) o) y b' (regime c) u a)) (sym same)
         (store_answered others o p m b b' c va width value (Ok (at.Device pa)) Answer.Nothing u a l can wants t ar tt (λ memory room. ap (device_store_outcome room va) (sym is)))
-    device_stored_on result q may (outside is same) = subst (λ (y : Shown). Ends u a l (Settles others (own_executed (only (Answer.Fault (access_fault Kind.Store) va)) o) y b' (regime c) u a)) (sym same)
+    device_stored_on result q may (outside is same) = subst (λ (y : Shown). Ends u a l (Counted others (own_executed (only (Answer.Fault (access_fault Kind.Store) va)) o) y b' (regime c) u a)) (sym same)
         (store_answered others o p m b b' c va width value (Ok (at.Device pa)) (Answer.Fault (access_fault Kind.Store) va) u a l can wants t ar tt (λ memory room. ap (device_store_outcome room va) (sym is)))

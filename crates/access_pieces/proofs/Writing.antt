@@ -37,7 +37,8 @@ use Rattle.turn_pieces.proofs.Writers.{owed_named, places_did, tells_did}
 use Rattle.guest_access.specs.Stepping.{HasStepped}
 use Rattle.guest_access.proofs.Areas.{ram_off}
 use Rattle.guest_access.proofs.Keeping.{goes_stepped}
-use Rattle.access_pieces.specs.Serving.{Settles, Tells, Wants, view}
+use Rattle.access_pieces.specs.Serving.{Counted, Tells, Wants, view}
+use Rattle.access_pieces.proofs.Counting.{counted_did}
 use Rattle.access_pieces.proofs.Awaited.{AwaitsBut, exec_pages, exec_paid}
 use Rattle.access_pieces.proofs.Executing.{awaits_stepped, step_at}
 
@@ -68,7 +69,7 @@ module _ (others : ℕ → Bool) where
   pub write_exec : (o : Own) (m q : Shown) (b : Book) (r : Regime) (c : Arch) (need : Need) (answer : Answer) (walk second : Walked) (op : WordOp) (pa arg old value : ℕ) (u : Setup) (a : ℕ) (l : Log) → Tells o m b r u a l
       → HasStepped op pa arg old m q → MayMake u a l (step_at others m op pa arg old) → IsWrite (owed (made (step_at others m op pa arg old) ∷ l)) (ram_word pa) value → Wants o c need → a < u.layout.harts
       → SeenFor u.layout.pages a c (access_of need) walk second (made (step_at others m op pa arg old) ∷ l) → ((w : Surroundings) → flushing w a c need ≡ None)
-      → ((w : Surroundings) → MayBe u a (made (step_at others m op pa arg old) ∷ l) w → wrote (ram_word pa) value answer ≡ perform w a c walk second need) → AwaitsBut others (exec_pages need walk second) u a l → Ends u a l (Settles others (own_executed (only answer) o) q b r u a)
+      → ((w : Surroundings) → MayBe u a (made (step_at others m op pa arg old) ∷ l) w → wrote (ram_word pa) value answer ≡ perform w a c walk second need) → AwaitsBut others (exec_pages need walk second) u a l → Ends u a l (Counted others (own_executed (only answer) o) q b r u a)
   write_exec o m q b r c need answer walk second op pa arg old value u a l t x may due wants hart seen calm right awaits =
       let s = step_at others m op pa arg old in
       let out = wrote (ram_word pa) value answer in
@@ -83,16 +84,19 @@ module _ (others : ℕ → Bool) where
       } in
       let drawn : places k ≡ [] = ap (λ v. drawn_next v op old (places l)) x.name ∙ t.tells.none_drawn in
       let left : unstored k ≡ None = ap (λ v. unstored_next v op old [] (unstored l)) x.name ∙ t.tells.none_left in
-      subst (λ (y : Own). Ends u a l (Settles others y q b r u a)) (wrote_own o (ram_word pa) value answer) (record {
+      subst (λ (y : Own). Ends u a l (Counted others y q b r u a)) (wrote_own o (ram_word pa) value answer) (record {
         late = did e ∷ k;
         grows = does e (makes s stays may) (record { own = refl; fit = subst (IsFit u a k e) (sym stands.part_is) (hart, fit); pays = pays_write u a k (owed k) a (ram_word pa) value walk second answer due });
         holds = record {
-          settled = exec_paid others o c need walk second out u a k wants stands.part_is (awaits_stepped others (exec_pages need walk second) u a l m q op pa arg old x awaits);
-          tells = record {
-            tells = tells_did o (view q) u a k e stands refl (places_did k e drawn) (ap (λ z. unstored_did (owed k) (did_of e).bytes z) left ∙ none_left (owed k) (ram_word pa) value (did_of e).bytes due);
-            fills = t.fills;
-            goes = fills_stay m q b r (flushes_in a l) t.fills (s ∷ []) (ap (λ (y : Shown). y.own.steps) x.step) (same_goes 1 IsOfRam m q ram_off (goes_stepped op pa arg old m q x)) t.goes;
+          settles = record {
+            settled = exec_paid others o c need walk second out u a k wants stands.part_is (awaits_stepped others (exec_pages need walk second) u a l m q op pa arg old x awaits);
+            tells = record {
+              tells = tells_did o (view q) u a k e stands refl (places_did k e drawn) (ap (λ z. unstored_did (owed k) (did_of e).bytes z) left ∙ none_left (owed k) (ram_word pa) value (did_of e).bytes due);
+              fills = t.fills;
+              goes = fills_stay m q b r (flushes_in a l) t.fills (s ∷ []) (ap (λ (y : Shown). y.own.steps) x.step) (same_goes 1 IsOfRam m q ram_off (goes_stepped op pa arg old m q x)) t.goes;
+            };
           };
+          counts = counted_did a k e refl refl;
         };
       })
 

@@ -1,5 +1,5 @@
 -- What an access comes to in its hart's log of steps and events.
-use Rattle.std.specs.Prelude.{◌≡◌, ℕ, ◌==◌, Bool, false, IsSome, List, None}
+use Rattle.std.specs.Prelude.{◌≡◌, ℕ, ◌==◌, Bool, true, false, IsSome, List, None}
 use Rattle.std.specs.List.{list_any}
 use Rattle.rv64_priv.specs.State.{Arch}
 use Rattle.rv64_priv.specs.Csr.{regime}
@@ -9,12 +9,13 @@ use Rattle.rv64_exec.specs.declared.needs.Answer.{Answer}
 use Rattle.rv64_priv.specs.Walk.{Walked}
 use Rattle.machine_model.specs.Event.{GiveUp, only}
 use Rattle.machine_model.specs.Own.{Own, own_executed}
+use Rattle.machine_model.specs.Run.{counts, last_of, passes}
 use Rattle.machine_model.specs.State.{Setup}
 use Rattle.machine_model.specs.Walks.{access_of, need_held}
 use Rattle.guest_ram.specs.Ports.{Shown}
 use Rattle.tlb_entry.specs.declared.books.Book.{Book}
 use Rattle.kept_fills.specs.Fills.{Fill, GoesWithFills}
-use Rattle.turn_pieces.specs.Log.{Log}
+use Rattle.turn_pieces.specs.Log.{Log, events_of}
 use Rattle.turn_pieces.specs.KeptWalks.{flushes_in}
 use Rattle.turn_pieces.specs.Marks.{is_awaited, own_pages}
 use Rattle.turn_pieces.specs.Right.{SeenMade}
@@ -55,6 +56,11 @@ pub record Rests (others : ℕ → Bool) (o : Own) (p : Shown) (b : Book) (r : R
   pub idle : owed l ≡ nothing
   pub settled : AwaitsAtMost others u a l
 
+-- the log settles, and the hart's last event in it counts an instruction: so the hart is to stop exactly where its count came to the limit
+pub record Counted (others : ℕ → Bool) (o : Own) (p : Shown) (b : Book) (r : Regime) (u : Setup) (a : ℕ) (l : Log) : Type 0 where
+  pub settles : Settles others o p b r u a l
+  pub counts : passes counts (last_of a (events_of l)) ≡ true
+
 -- the hart behind an instruction that was given up: it holds its word no longer
 abbrev pub given_up : Own → Own
 given_up o = record o { held = None }
@@ -67,10 +73,10 @@ pub record MayGiveUp (others : ℕ → Bool) (o : Own) (p : Shown) (b : Book) (r
   pub shown : SeenMade u.layout.pages a o.arch (access_of (need_held o.arch o.held)) walks l
   pub settled : (page : ℕ) → others page ≡ false → list_any (λ given. given == page) (own_pages o (GiveUp a walks)) ≡ false → is_awaited u a page l ≡ false
 
--- the instruction was executed with this answer, or is as it was and may be given up
+-- the instruction was executed with this answer, and the hart's last event counts one; or it is as it was and may be given up
 abbrev pub Served : (others : ℕ → Bool) → Own → Got → Shown → Book → Regime → Setup → ℕ → Log → Type 0
-Served others o (gets.Done answer) q b r u a l = Settles others (own_executed (only answer) o) q b r u a l
-Served others o (gets.Fault cause tval) q b r u a l = Settles others (own_executed (only (Answer.Fault cause tval)) o) q b r u a l
+Served others o (gets.Done answer) q b r u a l = Counted others (own_executed (only answer) o) q b r u a l
+Served others o (gets.Fault cause tval) q b r u a l = Counted others (own_executed (only (Answer.Fault cause tval)) o) q b r u a l
 Served others o got q b r u a l = MayGiveUp others o q b r u a l
 
 -- each log that tells of the port before, and rests, goes on by steps that may be made and events that are right to one that tells of the port

@@ -2,7 +2,8 @@
 ghost use Rattle.access_pieces.specs.Laws.{AmosServe, ConditionalsServe, GiveUpsStand, LoadsServe, ReservesServe, StoresServe, TranslationsLead};
 
 /// A load is served: behind its steps the log has the load's execution, with the answer that the reference machine gives in every state that
-/// fits the steps; or the walks that were made, by which the instruction may be given up. No mark waits for its store behind it that didn't before.
+/// fits the steps, and the hart's last event is then one that counts an instruction; or the walks that were made, by which the instruction may be
+/// given up. No mark waits for its store behind it that didn't before.
 pub fn law_loads()
     ensures { LoadsServe }
 {}
