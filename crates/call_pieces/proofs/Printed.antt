@@ -43,8 +43,9 @@ use Rattle.turn_pieces.proofs.Calls.{call_begins}
 use Rattle.turn_pieces.proofs.Offers.{draw_in_call, free, print_all}
 use Rattle.turn_pieces.proofs.Sections.{Plain, plain_section}
 use Rattle.turn_pieces.proofs.Writers.{grows_then, owed_named, tells_did}
-use Rattle.access_pieces.specs.Serving.{Tells, Wants, view}
-use Rattle.call_pieces.specs.Idle.{Idles}
+use Rattle.access_pieces.specs.Serving.{Wants, view}
+use Rattle.access_pieces.proofs.Counting.{counted_did}
+use Rattle.call_pieces.specs.Idle.{Called, Idles}
 use Rattle.hart_calls.specs.declared.asking.Asked.{Asked}
 use Rattle.hart_calls.specs.declared.outcomes.SbiEnd.{SbiEnd}
 use Rattle.hart_calls.specs.Asked.{IsAsked}
@@ -115,7 +116,7 @@ module _ (p q : Shown) (b : Book) (c : Arch) (from count first : ℕ) (runner : 
   memory_found finds n k w few m sect known = λ i less. m.section sect (ram_word (from + i)) (finds (ram_word (from + i))) (ram_shared (from + i)) (known i less)
 
   -- all find a place: the execution stands at the last store
-  pub all_served : (finds : Memory) (x : HasCopied finds from count p q) → Rattle.call_pieces.specs.Printing.AreInOrder finds from first count p q x → Ends u a l (Tells (own_executed (did_writing p q from count (succeeds count) true (all_put finds some x)) o) q b (regime c) u a)
+  pub all_served : (finds : Memory) (x : HasCopied finds from count p q) → Rattle.call_pieces.specs.Printing.AreInOrder finds from first count p q x → Ends u a l (Called (own_executed (did_writing p q from count (succeeds count) true (all_put finds some x)) o) q b (regime c) u a)
   all_served finds x order =
       let z = copied o b (regime c) u a t.tells.fills finds from first count p q l above (begins finds) x order in
       let k = z.0 in
@@ -130,15 +131,18 @@ module _ (p q : Shown) (b : Book) (c : Arch) (from count first : ℕ) (runner : 
         grows = grows_then u a l k y.grows (print_all u a k e first (y.owes some) opened (omega (arith, size, last)) refl (subst (IsFit u a k e) (sym y.stands.part_is) (there, fit))
             (record { does = record { entry_is = refl; bytes_are = sym y.call.stored; reason_is = refl; starts_is = refl; stops_is = refl }; begins_not = refl }));
         holds = record {
-          tells = tells_did o (view q) u a k e y.stands refl (ap (λ (g : Bool). if g then [] else places k) (some_bytes finds from count some)) (λ i. unstored_did (y.owes some i) (bytes_from finds from count) (y.call.none i));
-          fills = t.tells.fills;
-          goes = y.goes;
+          tells = record {
+            tells = tells_did o (view q) u a k e y.stands refl (ap (λ (g : Bool). if g then [] else places k) (some_bytes finds from count some)) (λ i. unstored_did (y.owes some i) (bytes_from finds from count) (y.call.none i));
+            fills = t.tells.fills;
+            goes = y.goes;
+          };
+          counts = counted_did a k e refl refl;
         };
       }
 
   -- one finds none: STOP is exchanged, and the execution stands there
   pub short_served : (finds : Memory) (mid : Shown) (stands : Reason) (x : HasRunOut finds from count p mid) (y : HasSetStop Reason.OutFull stands mid q) → Rattle.call_pieces.specs.Printing.AreInOrder finds from first x.put p x.mid x.copies → x.stops.place ≡ first + x.put
-      → Ends u a l (Tells (own_executed (did_writing p q from count (SbiEnd.Over Reason.OutFull) true (fills finds mid stands x y)) o) q b (regime c) u a)
+      → Ends u a l (Called (own_executed (did_writing p q from count (SbiEnd.Over Reason.OutFull) true (fills finds mid stands x y)) o) q b (regime c) u a)
   short_served finds mid stands x y order at =
       let n = x.put in
       let f = x.stops in
@@ -186,10 +190,13 @@ module _ (p q : Shown) (b : Book) (c : Arch) (from count first : ℕ) (runner : 
           });
         });
         holds = record {
-          tells = tells_did o (view q) u a k2 e st refl refl (λ i. unstored_did (due i) (bytes_from finds from n) (left i));
-          fills = t.tells.fills;
-          goes = fills_stay mid q b (regime c) (flushes_in a k1) t.tells.fills (d ∷ []) (ap (λ (v : Shown). v.own.steps) y.exchanges.step) (same_goes 1 IsOfHartCalls mid q calls_off (goes_made IsOfHartCalls mid q Stop (Exchange 0) 4 y.found y.exchanges tt))
-              (fills_stay f.mid mid b (regime c) (flushes_in a k) t.tells.fills (s ∷ []) (ap (λ (v : Shown). v.own.steps) f.draws.draws.step) (same_goes 1 IsOfHartCalls f.mid mid calls_off (goes_made IsOfHartCalls f.mid mid Cons Add 1 f.place f.draws.draws tt)) j.goes);
+          tells = record {
+            tells = tells_did o (view q) u a k2 e st refl refl (λ i. unstored_did (due i) (bytes_from finds from n) (left i));
+            fills = t.tells.fills;
+            goes = fills_stay mid q b (regime c) (flushes_in a k1) t.tells.fills (d ∷ []) (ap (λ (v : Shown). v.own.steps) y.exchanges.step) (same_goes 1 IsOfHartCalls mid q calls_off (goes_made IsOfHartCalls mid q Stop (Exchange 0) 4 y.found y.exchanges tt))
+                (fills_stay f.mid mid b (regime c) (flushes_in a k) t.tells.fills (s ∷ []) (ap (λ (v : Shown). v.own.steps) f.draws.draws.step) (same_goes 1 IsOfHartCalls f.mid mid calls_off (goes_made IsOfHartCalls f.mid mid Cons Add 1 f.place f.draws.draws tt)) j.goes);
+          };
+          counts = counted_did a k2 e refl refl;
         };
       }
     where
@@ -207,7 +214,7 @@ module _ (p q : Shown) (b : Book) (c : Arch) (from count first : ℕ) (runner : 
       cut_behind n i place ds many e beyond at = omega (arith, many, e, beyond, at)
 
 none_served : (p q : Shown) (b : Book) (c : Arch) (from count : ℕ) (end : SbiEnd) (done : HasWritten p q from count end true) → IsRunner p → may_draw p.own.steps ≡ true → IsAsked (layout_of p) c (Asked.Prints from count) → count ≡ 0
-    → (o : Own) → Wants o c Need.Sbi → Part (Idles o p b (regime c)) (Tells (own_executed (did_writing p q from count end true done) o) q b (regime c))
+    → (o : Own) → Wants o c Need.Sbi → Part (Idles o p b (regime c)) (Called (own_executed (did_writing p q from count end true done) o) q b (regime c))
 none_served p q b c from count end done runner may is none o wants = calls_served p q b c true (Asked.Prints from count) end done runner may is none o wants
 
 pub bytes_served : BytesAreServed

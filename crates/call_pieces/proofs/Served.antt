@@ -13,11 +13,12 @@ use Rattle.step_laws.specs.declared.steps.Step.{Step}
 use Rattle.step_laws.specs.Discipline.{minus_one}
 use Rattle.step_laws.specs.Words.{console_places}
 use Rattle.step_laws.specs.Map.{Hsm, Live}
-use Rattle.machine_model.specs.Event.{Exec, Outcome, only}
+use Rattle.machine_model.specs.Event.{Event, Exec, Outcome, actor_of, only}
 use Rattle.machine_model.specs.declared.mode.Mode.{Mode}
 use Rattle.machine_model.specs.declared.mode.Mode.TheVariants.{Started}
 use Rattle.machine_model.specs.Own.{Own, own_executed}
 use Rattle.machine_model.specs.Perform.{Surroundings}
+use Rattle.machine_model.specs.Run.{counts}
 use Rattle.machine_model.specs.State.{Setup, is_halted}
 use Rattle.guest_ram.specs.Ports.{Shown, Made, layout_of}
 use Rattle.tlb_entry.specs.declared.books.Book.{Book}
@@ -27,12 +28,13 @@ use Rattle.guest_ram.specs.Plays.{step_of}
 use Rattle.guest_devices.specs.Output.{HasDrawn}
 use Rattle.turn_pieces.specs.Folds.{drawn_next}
 use Rattle.turn_pieces.specs.Kept.{places}
-use Rattle.turn_pieces.specs.Log.{made, did, Log, steps_of}
+use Rattle.turn_pieces.specs.Log.{made, did, Log, events_of, steps_of}
 use Rattle.turn_pieces.specs.Right.{MayBe}
 use Rattle.turn_pieces.specs.Grows.{Ends, stays}
 use Rattle.turn_pieces.specs.Shared.{IsShared, mode_named}
-use Rattle.access_pieces.specs.Serving.{Tells, Wants}
-use Rattle.call_pieces.specs.Idle.{Idles}
+use Rattle.access_pieces.specs.Serving.{Wants}
+use Rattle.access_pieces.proofs.Counting.{counted_top}
+use Rattle.call_pieces.specs.Idle.{Called, Idles}
 use Rattle.hart_calls.specs.declared.asking.Asked.{Asked}
 use Rattle.hart_calls.specs.declared.outcomes.SbiEnd.{SbiEnd}
 use Rattle.hart_calls.specs.Asked.{IsAsked}
@@ -76,22 +78,24 @@ module _ (o : Own) (p q : Shown) (b : Book) (c : Arch) (section : Bool) (asked :
   fits k found = exec_fit o c (did_call p q section asked end done) u a k wants (λ w m. no_flush p c asked is s w a (m.layout ∙ layout_is))
       (λ w m. did_is p q c section asked end done is w a PageFault PageFault (m.layout ∙ layout_is) (found w m))
 
-  pub ended : (k : Log) → Behind (own_executed (did_call p q section asked end done) o) b (regime c) u a q l k → Ends u a l (Tells (own_executed (did_call p q section asked end done) o) q b (regime c) u a)
-  ended k x = record { late = k; grows = x.grows; holds = x.tells }
+  -- the event on top of the log is the hart's, and counts an instruction
+  pub ended : (k : Log) → Behind (own_executed (did_call p q section asked end done) o) b (regime c) u a q l k → {e : Event} {run : List Event} → events_of k ≡ e ∷ run → actor_of e ≡ a → counts e ≡ true
+      → Ends u a l (Called (own_executed (did_call p q section asked end done) o) q b (regime c) u a)
+  ended k x {e} {run} top own is = record { late = k; grows = x.grows; holds = record { tells = x.tells; counts = counted_top a k e run top own is } }
 
   -- without a step
-  pub still : q ≡ p → did_call p q section asked end done ≡ only (answer_of end) → ((w : Surroundings) → MayBe u a l w → IsFound w p q section asked end done) → Ends u a l (Tells (own_executed (did_call p q section asked end done) o) q b (regime c) u a)
+  pub still : q ≡ p → did_call p q section asked end done ≡ only (answer_of end) → ((w : Surroundings) → MayBe u a l w → IsFound w p q section asked end done) → Ends u a l (Called (own_executed (did_call p q section asked end done) o) q b (regime c) u a)
   still same out found = ended _ (subst (λ (y : Shown). Behind (own_executed (did_call p q section asked end done) o) b (regime c) u a y l (did (Exec a PageFault PageFault (did_call p q section asked end done)) ∷ l)) (sym same)
-      (rested o b (regime c) (did_call p q section asked end done) u a p l l first t.idle there (fits l found) (subst (λ (d : Outcome). IsQuiet (Exec a PageFault PageFault d)) (sym out) (quiet_only a (answer_of end)))))
+      (rested o b (regime c) (did_call p q section asked end done) u a p l l first t.idle there (fits l found) (subst (λ (d : Outcome). IsQuiet (Exec a PageFault PageFault d)) (sym out) (quiet_only a (answer_of end))))) refl refl refl
 
   -- by one look at the state of a hart
   pub looked : (target found arg : ℕ) (op : WordOp) → (m : Made p q (Hsm target) op arg found) → target < (layout_of p).harts → op ≢ Store → Rattle.turn_pieces.specs.Doing.IsCalm (Hsm target) op found → ((n : ℕ) → Rattle.turn_pieces.specs.Writers.IsPlain n (Hsm target) op)
-      → did_call p q section asked end done ≡ only (answer_of end) → ((w : Surroundings) → w.modes target ≡ mode_found found → IsFound w p q section asked end done) → Ends u a l (Tells (own_executed (did_call p q section asked end done) o) q b (regime c) u a)
+      → did_call p q section asked end done ≡ only (answer_of end) → ((w : Surroundings) → w.modes target ≡ mode_found found → IsFound w p q section asked end done) → Ends u a l (Called (own_executed (did_call p q section asked end done) o) q b (regime c) u a)
   looked target found arg op m few not_store calm_is plain_is out as_found =
       let k = calm o b (regime c) u a p q (Hsm target) op arg found m tt calm_is plain_is l l first in
       ended _ (rested o b (regime c) (did_call p q section asked end done) u a q l _ k (calm_idle o b (regime c) u a p q (Hsm target) op arg found m calm_is plain_is l) there
       (fits _ (λ w y. as_found w (y.here.1 target (subst (λ (z : Layout). target < z.harts) (sym layout_is) few) m.name not_store ∙ same_mode found)))
-      (subst (λ (d : Outcome). IsQuiet (Exec a PageFault PageFault d)) (sym out) (quiet_only a (answer_of end))))
+      (subst (λ (d : Outcome). IsQuiet (Exec a PageFault PageFault d)) (sym out) (quiet_only a (answer_of end)))) refl refl refl
 
 or_no_store : Or ≢ Store
 or_no_store e = cc
@@ -116,14 +120,14 @@ calls_served p q b c section (Asked.Sends mask) end done runner may is s o wants
     let asked = Asked.Sends mask in
     ended o p q b c section asked end done runner is tt wants u a l t _
     (sent_placed o b (regime c) u a (answer_of end) mask done.1.0 p q m l l (first o p q b c section asked end done runner is tt wants u a l t) (there o p q b c section asked end done runner is tt wants u a l t)
-    (fits o p q b c section asked end done runner is tt wants u a l t _ (λ w y. ap w.memory (sym (ipi_is m.word m.name)) ∙ y.here.0 (subst IsShared (sym m.name) tt) or_no_store)))
+    (fits o p q b c section asked end done runner is tt wants u a l t _ (λ w y. ap w.memory (sym (ipi_is m.word m.name)) ∙ y.here.0 (subst IsShared (sym m.name) tt) or_no_store))) refl refl refl
 calls_served p q b c section (Asked.Fences harts span) end done runner may is s o wants u a l t = absurd s
 calls_served p q b c section (Asked.Starts target at opaque) end (started other x) runner may is s o wants u a l t =
     let asked = Asked.Starts target at opaque in
     let done : HasTried p q target at opaque end = started other x in
     ended o p q b c section asked end done runner is tt wants u a l t _
     (started_placed o b (regime c) u a (answer_of end) target at opaque p q x l l (first o p q b c section asked end done runner is tt wants u a l t) (there o p q b c section asked end done runner is tt wants u a l t)
-    (fits o p q b c section asked end done runner is tt wants u a l t _ (λ w y. y.here.1 target (subst (λ (z : Layout). target < z.harts) (sym (layout_is o p q b c section asked end done runner is tt wants u a l t)) is.sound.0) x.takes.name exchange_no_store ∙ same_mode 1)))
+    (fits o p q b c section asked end done runner is tt wants u a l t _ (λ w y. y.here.1 target (subst (λ (z : Layout). target < z.harts) (sym (layout_is o p q b c section asked end done runner is tt wants u a l t)) is.sound.0) x.takes.name exchange_no_store ∙ same_mode 1))) refl refl refl
 calls_served p q b c section (Asked.Starts target at opaque) end (refused found other ne x) runner may is s o wants u a l t =
     looked o p q b c section (Asked.Starts target at opaque) end (refused found other ne x) runner is tt wants u a l t target found 3 (Exchange 1) x is.sound.0 exchange_no_store (λ e. ne (sym e)) (λ n. tt) refl (λ w e. e)
 calls_served p q b c section (Asked.Starts target at opaque) end (is_own own same) runner may is s o wants u a l t = absurd (s own)
@@ -135,18 +139,18 @@ calls_served p q b c section Asked.Leaves end (stopped left ne x) runner may is 
     ended o p q b c section Asked.Leaves end done runner is tt wants u a l t _
     (calm (own_executed (did_call p q section Asked.Leaves end done) o) b (regime c) u a x.stopped q Live Add minus_one left x.takes tt tt (λ n. tt) l _
     (left_placed o b (regime c) u a (answer_of end) p x.stopped x.stops l l own (first o p q b c section Asked.Leaves end done runner is tt wants u a l t) (there o p q b c section Asked.Leaves end done runner is tt wants u a l t)
-    (fits o p q b c section Asked.Leaves end done runner is tt wants u a l t _ (λ w y. tt))))
+    (fits o p q b c section Asked.Leaves end done runner is tt wants u a l t _ (λ w y. tt)))) refl refl refl
 calls_served p q b c section Asked.Leaves end (stopped_last mid stands x y) runner may is s o wants u a l t =
     let done : HasLeft p q end = stopped_last mid stands x y in
     let own : p.own.actor ≡ a = sym t.tells.tells.stands.actor in
     ended o p q b c section Asked.Leaves end done runner is tt wants u a l t _
     (all_stopped o b (regime c) u a (answer_of end) stands p x.stopped mid q x.stops x.takes y l l own (first o p q b c section Asked.Leaves end done runner is tt wants u a l t) (there o p q b c section Asked.Leaves end done runner is tt wants u a l t)
-    (fits o p q b c section Asked.Leaves end done runner is tt wants u a l t _ (λ w z. tt)))
+    (fits o p q b c section Asked.Leaves end done runner is tt wants u a l t _ (λ w z. tt))) refl refl refl
 calls_served p q b c section (Asked.Ends reason) end done runner may is s o wants u a l t =
     let asked = Asked.Ends reason in
     ended o p q b c section asked end done runner is tt wants u a l t _
     (stop_placed o b (regime c) u a (answer_of end) reason done.1.0 p q done.1.1 l l (first o p q b c section asked end done runner is tt wants u a l t) (there o p q b c section asked end done runner is tt wants u a l t)
-    (fits o p q b c section asked end done runner is tt wants u a l t _ (λ w y. tt)))
+    (fits o p q b c section asked end done runner is tt wants u a l t _ (λ w y. tt))) refl refl refl
 calls_served p q b c section (Asked.Prints from count) end (no_byte none same) runner may is s o wants u a l t = still o p q b c section (Asked.Prints from count) end (no_byte none same) runner is tt wants u a l t same refl (λ w m. tt)
 calls_served p q b c section (Asked.Prints from count) end (needs_section some same) runner may is s o wants u a l t = absurd (some s)
 calls_served p q b c section (Asked.Prints from count) end (all_put finds some x) runner may is s o wants u a l t = absurd (some s)
@@ -156,25 +160,25 @@ calls_served p q b c section (Asked.PrintsByte byte) end (put x) runner may is s
     let done : HasWrittenByte p q byte (succeeds 0) end = put x in
     ended o p q b c section asked end done runner is tt wants u a l t _
     (byte_placed o b (regime c) u a (answer_of end) byte p q x l l (first o p q b c section asked end done runner is tt wants u a l t) (there o p q b c section asked end done runner is tt wants u a l t) (draws_there o p b (regime c) u a l t may)
-    (fits o p q b c section asked end done runner is tt wants u a l t _ (λ w y. some_room u a _ x.place w y (one_drawn o p x.mid b (regime c) u a l t x.place x.draws) x.less)))
+    (fits o p q b c section asked end done runner is tt wants u a l t _ (λ w y. some_room u a _ x.place w y (one_drawn o p x.mid b (regime c) u a l t x.place x.draws) x.less))) refl refl refl
 calls_served p q b c section (Asked.PrintsByte byte) end (found_full place mid stands x y) runner may is s o wants u a l t =
     let asked = Asked.PrintsByte byte in
     let done : HasWrittenByte p q byte (succeeds 0) end = found_full place mid stands x y in
     ended o p q b c section asked end done runner is tt wants u a l t _
     (full_placed o b (regime c) u a place stands p mid q x y l l (first o p q b c section asked end done runner is tt wants u a l t) (there o p q b c section asked end done runner is tt wants u a l t) (draws_there o p b (regime c) u a l t may)
-    (fits o p q b c section asked end done runner is tt wants u a l t _ (λ w z. no_room u a _ place w z (ap (λ v. drawn_next v (Exchange 0) y.found (places (made (step_of p.own.actor x.draws.word Add 1 place) ∷ l))) y.exchanges.name ∙ one_drawn o p mid b (regime c) u a l t place x.draws) x.beyond)))
+    (fits o p q b c section asked end done runner is tt wants u a l t _ (λ w z. no_room u a _ place w z (ap (λ v. drawn_next v (Exchange 0) y.found (places (made (step_of p.own.actor x.draws.word Add 1 place) ∷ l))) y.exchanges.name ∙ one_drawn o p mid b (regime c) u a l t place x.draws) x.beyond))) refl refl refl
 calls_served p q b c section (Asked.PrintsOne byte) end (put x) runner may is s o wants u a l t =
     let asked = Asked.PrintsOne byte in
     let done : HasWrittenByte p q byte (SbiEnd.Single 0) end = put x in
     ended o p q b c section asked end done runner is tt wants u a l t _
     (byte_placed o b (regime c) u a (answer_of end) byte p q x l l (first o p q b c section asked end done runner is tt wants u a l t) (there o p q b c section asked end done runner is tt wants u a l t) (draws_there o p b (regime c) u a l t may)
-    (fits o p q b c section asked end done runner is tt wants u a l t _ (λ w y. some_room u a _ x.place w y (one_drawn o p x.mid b (regime c) u a l t x.place x.draws) x.less)))
+    (fits o p q b c section asked end done runner is tt wants u a l t _ (λ w y. some_room u a _ x.place w y (one_drawn o p x.mid b (regime c) u a l t x.place x.draws) x.less))) refl refl refl
 calls_served p q b c section (Asked.PrintsOne byte) end (found_full place mid stands x y) runner may is s o wants u a l t =
     let asked = Asked.PrintsOne byte in
     let done : HasWrittenByte p q byte (SbiEnd.Single 0) end = found_full place mid stands x y in
     ended o p q b c section asked end done runner is tt wants u a l t _
     (full_placed o b (regime c) u a place stands p mid q x y l l (first o p q b c section asked end done runner is tt wants u a l t) (there o p q b c section asked end done runner is tt wants u a l t) (draws_there o p b (regime c) u a l t may)
-    (fits o p q b c section asked end done runner is tt wants u a l t _ (λ w z. no_room u a _ place w z (ap (λ v. drawn_next v (Exchange 0) y.found (places (made (step_of p.own.actor x.draws.word Add 1 place) ∷ l))) y.exchanges.name ∙ one_drawn o p mid b (regime c) u a l t place x.draws) x.beyond)))
+    (fits o p q b c section asked end done runner is tt wants u a l t _ (λ w z. no_room u a _ place w z (ap (λ v. drawn_next v (Exchange 0) y.found (places (made (step_of p.own.actor x.draws.word Add 1 place) ∷ l))) y.exchanges.name ∙ one_drawn o p mid b (regime c) u a l t place x.draws) x.beyond))) refl refl refl
 
 started_runs : (m : Mode) → m ≡ Started → is_halted m ≡ false
 started_runs m e = ap is_halted e

@@ -1,11 +1,12 @@
--- A log at which a call may be executed.
-use Rattle.std.specs.Prelude.{◌≡◌, ℕ}
+-- A log at which a call may be executed, and one in which it was.
+use Rattle.std.specs.Prelude.{◌≡◌, ℕ, true}
 use Rattle.rv64_priv.specs.declared.state.Regime.{Regime}
 use Rattle.machine_model.specs.Own.{Own}
+use Rattle.machine_model.specs.Run.{counts, last_of, passes}
 use Rattle.machine_model.specs.State.{Setup}
 use Rattle.guest_ram.specs.Ports.{Shown}
 use Rattle.tlb_entry.specs.declared.books.Book.{Book}
-use Rattle.turn_pieces.specs.Log.{Log}
+use Rattle.turn_pieces.specs.Log.{Log, events_of}
 use Rattle.turn_pieces.specs.Owed.{nothing, owed}
 use Rattle.access_pieces.specs.Serving.{Tells}
 
@@ -13,3 +14,8 @@ use Rattle.access_pieces.specs.Serving.{Tells}
 pub record Idles (o : Own) (p : Shown) (b : Book) (r : Regime) (u : Setup) (a : ℕ) (l : Log) : Type 0 where
   pub tells : Tells o p b r u a l
   pub idle : owed l ≡ nothing
+
+-- it tells of the port, and the hart's last event in it counts an instruction: the execution, or the stop of all behind it
+pub record Called (o : Own) (p : Shown) (b : Book) (r : Regime) (u : Setup) (a : ℕ) (l : Log) : Type 0 where
+  pub tells : Tells o p b r u a l
+  pub counts : passes counts (last_of a (events_of l)) ≡ true

@@ -10,8 +10,8 @@ use Rattle.guest_ram.specs.Ports.{Shown, layout_of}
 use Rattle.tlb_entry.specs.declared.books.Book.{Book}
 use Rattle.turn_pieces.specs.Draws.{may_draw}
 use Rattle.turn_pieces.specs.Grows.{Part}
-use Rattle.access_pieces.specs.Serving.{Tells, Wants}
-use Rattle.call_pieces.specs.Idle.{Idles}
+use Rattle.access_pieces.specs.Serving.{Wants}
+use Rattle.call_pieces.specs.Idle.{Called, Idles}
 use Rattle.hart_calls.specs.declared.asking.Asked.{Asked}
 use Rattle.hart_calls.specs.declared.outcomes.SbiEnd.{SbiEnd}
 use Rattle.hart_calls.specs.Asked.{IsAsked}
@@ -34,4 +34,4 @@ IsInOrder p q from count first end section _ = Unit {0}
 abbrev pub BytesAreServed : Type 0
 BytesAreServed = (p q : Shown) (b : Book) (c : Arch) (from count first : ℕ) (end : SbiEnd) (done : HasWritten p q from count end true)
     → IsRunner p → may_draw p.own.steps ≡ true → IsAsked (layout_of p) c (Asked.Prints from count) → IsInSection (layout_of p) p.own.actor p.own.steps → IsInOrder p q from count first end true done
-    → (o : Own) → Wants o c Need.Sbi → Part (Idles o p b (regime c)) (Tells (own_executed (did_writing p q from count end true done) o) q b (regime c))
+    → (o : Own) → Wants o c Need.Sbi → Part (Idles o p b (regime c)) (Called (own_executed (did_writing p q from count end true done) o) q b (regime c))

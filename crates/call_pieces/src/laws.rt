@@ -2,7 +2,8 @@
 ghost use Rattle.call_pieces.specs.Laws.{CallsAreServed, OwnStartsAreServed};
 ghost use Rattle.call_pieces.specs.Printing.{BytesAreServed};
 
-/// Each log that tells of the port before a call goes on by its steps, and its execution, to one that tells of the port behind.
+/// Each log that tells of the port before a call goes on by its steps, and its execution, to one that tells of the port behind. The hart's last
+/// event is then one that counts an instruction: the execution, or the stop of all behind it.
 pub fn law_served()
     ensures calls { CallsAreServed }
     ensures own_starts { OwnStartsAreServed }
