@@ -32,7 +32,8 @@ use Rattle.turn_pieces.specs.Grows.{Ends, stays}
 use Rattle.turn_pieces.proofs.Offers.{free}
 use Rattle.turn_pieces.proofs.Unmarked.{unmarked_did, unmarked_step, is_other}
 use Rattle.turn_pieces.proofs.Writers.{owed_named}
-use Rattle.access_pieces.specs.Serving.{AwaitsAtMost, Rests, Settles, Wants}
+use Rattle.access_pieces.specs.Serving.{AwaitsAtMost, Counted, Rests, Wants}
+use Rattle.access_pieces.proofs.Counting.{counted_did}
 use Rattle.call_pieces.proofs.Moving.{ipi_is}
 use Rattle.call_pieces.proofs.Placing.{Behind, calm, calm_idle, placed, rested}
 use Rattle.need_serving.specs.Serving.{HasUsedPending}
@@ -57,12 +58,12 @@ module _ (others : ℕ → Bool) (o : Own) (q : Shown) (b : Book) (r : Regime) (
 
   -- it stands where the log rests
   pub stands_at_rest : (c : Arch) (need : Need) (answer : Answer) → Rests others o q b r u a l → a < u.layout.harts → Wants o c need → access_of need ≡ None → ((w : Surroundings) → MayBe u a l w → AreFenced a l (flushing w a c need))
-      → ((w : Surroundings) → MayBe u a l w → only answer ≡ perform w a c PageFault PageFault need) → Ends u a l (Settles others (own_executed (only answer) o) q b r u a)
+      → ((w : Surroundings) → MayBe u a l w → only answer ≡ perform w a c PageFault PageFault need) → Ends u a l (Counted others (own_executed (only answer) o) q b r u a)
   stands_at_rest c need answer x hart wants alone fenced right =
       let k = rested o b r (only answer) u a q l l (record { grows = stays; tells = x.tells }) x.idle hart (exec_fit o c need (only answer) u a l wants alone fenced right) (quiet_only a answer) in record {
         late = did (Exec a PageFault PageFault (only answer)) ∷ l;
         grows = k.grows;
-        holds = record { tells = k.tells; settled = settled_did (only answer) x.settled };
+        holds = record { settles = record { tells = k.tells; settled = settled_did (only answer) x.settled }; counts = counted_did a l (Exec a PageFault PageFault (only answer)) refl refl };
       }
 
 no_flush_nothing : (w : Surroundings) (a : ℕ) (c : Arch) → flushing w a c Need.Nothing ≡ None
@@ -90,11 +91,11 @@ unfolding perform
 does_ipi w a c op found e = ap (λ n. record (only (Answer.Value (sip_value n a))) { entry = ipi_entry op n a }) (sym e)
 
 pub nothing_served : (others : ℕ → Bool) (o : Own) (q : Shown) (b : Book) (r : Regime) (c : Arch) (u : Setup) (a : ℕ) (l : Log) → Rests others o q b r u a l → a < u.layout.harts → Wants o c Need.Nothing
-    → Ends u a l (Settles others (own_executed (only Answer.Nothing) o) q b r u a)
+    → Ends u a l (Counted others (own_executed (only Answer.Nothing) o) q b r u a)
 nothing_served others o q b r c u a l x hart wants = stands_at_rest others o q b r u a l c Need.Nothing Answer.Nothing x hart wants refl (λ w m. subst (AreFenced a l) (sym (no_flush_nothing w a c)) tt) (λ w m. does_nothing w a c)
 
 pub trap_served : (others : ℕ → Bool) (o : Own) (q : Shown) (b : Book) (r : Regime) (c : Arch) (cause tval : ℕ) (u : Setup) (a : ℕ) (l : Log) → Rests others o q b r u a l → a < u.layout.harts → Wants o c (Need.Trap cause tval)
-    → Ends u a l (Settles others (own_executed (only (Answer.Fault cause tval)) o) q b r u a)
+    → Ends u a l (Counted others (own_executed (only (Answer.Fault cause tval)) o) q b r u a)
 trap_served others o q b r c cause tval u a l x hart wants =
     stands_at_rest others o q b r u a l c (Need.Trap cause tval) (Answer.Fault cause tval) x hart wants refl (λ w m. subst (AreFenced a l) (sym (no_flush_trap w a c cause tval)) tt) (λ w m. does_trap w a c cause tval)
 
@@ -119,14 +120,14 @@ module _ (others : ℕ → Bool) (o : Own) (p q : Shown) (b : Book) (r : Regime)
       (unmarked_step u a page l (step_of p.own.actor m.word wop arg found) (ap is_other m.name) ∙ x.settled page free)
 
   -- the bit is read
-  read_served : (found : ℕ) → Made p q Ipi Load 0 found → Wants o c (Need.Ipi IpiOp.Read) → Ends u a l (Settles others (own_executed (only (Answer.Value (sip_value found a))) o) q b r u a)
+  read_served : (found : ℕ) → Made p q Ipi Load 0 found → Wants o c (Need.Ipi IpiOp.Read) → Ends u a l (Counted others (own_executed (only (Answer.Value (sip_value found a))) o) q b r u a)
   read_served found m wants =
       let out = only (Answer.Value (sip_value found a)) in
       let k = calm o b r u a p q Ipi Load 0 found m tt tt (λ n. tt) l l first in
       let y = rested o b r out u a q l (made (step_of p.own.actor m.word Load 0 found) ∷ l) k (calm_idle o b r u a p q Ipi Load 0 found m tt (λ n. tt) l) hart (fits IpiOp.Read Load 0 found m load_no_store wants) (quiet_only a (Answer.Value (sip_value found a))) in record {
         late = did (Exec a PageFault PageFault out) ∷ made (step_of p.own.actor m.word Load 0 found) ∷ l;
         grows = y.grows;
-        holds = record { tells = y.tells; settled = settles out Load 0 found m };
+        holds = record { settles = record { tells = y.tells; settled = settles out Load 0 found m }; counts = counted_did a (made (step_of p.own.actor m.word Load 0 found) ∷ l) (Exec a PageFault PageFault out) refl refl };
       }
 
   -- it is changed, by an operation that writes the word
@@ -134,7 +135,7 @@ module _ (others : ℕ → Bool) (o : Own) (p q : Shown) (b : Book) (r : Regime)
       → owes (owed l) (unstored l) Ipi wop m.word arg found ≡ writes m.word value
       → MayMake u a l (step_of p.own.actor m.word wop arg found)
       → drawn_next Ipi wop found (places l) ≡ places l → unstored_next Ipi wop found [] (unstored l) ≡ unstored l
-      → Ends u a l (Settles others (own_executed (record (only (Answer.Value (sip_value found a))) { entry = ipi_entry op found a }) o) q b r u a)
+      → Ends u a l (Counted others (own_executed (record (only (Answer.Value (sip_value found a))) { entry = ipi_entry op found a }) o) q b r u a)
   changed_served op wop arg found value m loads wants entry owes may draws stores =
       let s = step_of p.own.actor m.word wop arg found in
       let out = record (only (Answer.Value (sip_value found a))) { entry = ipi_entry op found a } in
@@ -145,7 +146,7 @@ module _ (others : ℕ → Bool) (o : Own) (p q : Shown) (b : Book) (r : Regime)
       (record { does = record { entry_is = same; bytes_are = refl; reason_is = refl; starts_is = refl; stops_is = refl }; begins_not = refl }) in record {
         late = did (Exec a PageFault PageFault out) ∷ made s ∷ l;
         grows = y.grows;
-        holds = record { tells = y.tells; settled = settles out wop arg found m };
+        holds = record { settles = record { tells = y.tells; settled = settles out wop arg found m }; counts = counted_did a (made s ∷ l) (Exec a PageFault PageFault out) refl refl };
       }
 
 or_no_store : Or ≢ Store
@@ -155,10 +156,10 @@ and_no_store : And ≢ Store
 and_no_store e = cc
 
 pub pending_served : (others : ℕ → Bool) (o : Own) (p q : Shown) (b : Book) (r : Regime) (c : Arch) (op : IpiOp) (value : ℕ) (u : Setup) (a : ℕ) (l : Log) → Rests others o p b r u a l → a < u.layout.harts → Wants o c (Need.Ipi op) → HasUsedPending p q op value
-    → Ends u a l (Settles others (own_executed (only (Answer.Value value)) o) q b r u a)
+    → Ends u a l (Counted others (own_executed (only (Answer.Value value)) o) q b r u a)
 pending_served others o p q b r c IpiOp.Read value u a l x hart wants used =
     let e : sip_value used.0 a ≡ value = ap (sip_value used.0) x.tells.tells.stands.actor ∙ sym used.2 in
-    subst (λ v. Ends u a l (Settles others (own_executed (only (Answer.Value v)) o) q b r u a)) e (read_served others o p q b r c u a l x hart used.0 used.1 wants)
+    subst (λ v. Ends u a l (Counted others (own_executed (only (Answer.Value v)) o) q b r u a)) e (read_served others o p q b r c u a l x hart used.0 used.1 wants)
 pending_served others o p q b r c IpiOp.Set value u a l x hart wants used =
     let own : p.own.actor ≡ a = sym x.tells.tells.stands.actor in
     let mask = 2 ^ p.own.actor in
@@ -166,7 +167,7 @@ pending_served others o p q b r c IpiOp.Set value u a l x hart wants used =
     let s = step_of p.own.actor used.1.word Or mask used.0 in
     let y = changed_served others o p q b r c u a l x hart IpiOp.Set Or mask used.0 (bit_or used.0 mask) used.1 or_no_store wants (ap (λ n. ipi_becomes (bit_or used.0 (2 ^ n))) (sym own)) refl
     (free u a l x.tells.tells.clear s Ipi Or used.1.name refl tt tt tt) refl refl in
-    subst (λ (d : Own). Ends u a l (Settles others d q b r u a))
+    subst (λ (d : Own). Ends u a l (Counted others d q b r u a))
     (executed_by (record (only (Answer.Value (sip_value used.0 a))) { entry = ipi_entry IpiOp.Set used.0 a }) o (Answer.Value value) false (ap Answer.Value e) refl) y
 pending_served others o p q b r c IpiOp.Clear value u a l x hart wants used =
     let own : p.own.actor ≡ a = sym x.tells.tells.stands.actor in
@@ -175,5 +176,5 @@ pending_served others o p q b r c IpiOp.Clear value u a l x hart wants used =
     let s = step_of p.own.actor used.1.word And (2 ^ 64 - 1 - mask) used.0 in
     let y = changed_served others o p q b r c u a l x hart IpiOp.Clear And (2 ^ 64 - 1 - mask) used.0 (used.0 - bit_and used.0 mask) used.1 and_no_store wants (ap (λ n. ipi_becomes (used.0 - bit_and used.0 (2 ^ n))) (sym own))
     (ap (λ n. writes used.1.word n) used.3) (free u a l x.tells.tells.clear s Ipi And used.1.name refl tt tt tt) refl refl in
-    subst (λ (d : Own). Ends u a l (Settles others d q b r u a))
+    subst (λ (d : Own). Ends u a l (Counted others d q b r u a))
     (executed_by (record (only (Answer.Value (sip_value used.0 a))) { entry = ipi_entry IpiOp.Clear used.0 a }) o (Answer.Value value) false (ap Answer.Value e) refl) y

@@ -24,7 +24,7 @@ use Rattle.turn_pieces.specs.Doing.{IsQuiet}
 use Rattle.turn_pieces.specs.Log.{Log, did}
 use Rattle.turn_pieces.specs.Right.{AreFenced}
 use Rattle.turn_pieces.proofs.Unmarked.{is_other}
-use Rattle.access_pieces.specs.Serving.{MayGiveUp, Rests, Settles, Tells, Wants}
+use Rattle.access_pieces.specs.Serving.{Counted, MayGiveUp, Rests, Tells, Wants}
 use Rattle.hart_calls.specs.declared.asking.Asked.{Asked}
 use Rattle.hart_calls.specs.declared.outcomes.SbiEnd.{SbiEnd}
 use Rattle.hart_calls.specs.declared.spans.Span.{Span}
@@ -34,7 +34,8 @@ use Rattle.hart_calls.specs.Ends.{runs_on, succeeds}
 use Rattle.hart_calls.specs.Spans.{flush_of}
 use Rattle.hart_calls.specs.States.{IsRunner, mode_found}
 use Rattle.call_laws.specs.Did.{answer_of, did_call, did_writing}
-use Rattle.call_pieces.specs.Idle.{Idles}
+use Rattle.access_pieces.proofs.Counting.{counted_did}
+use Rattle.call_pieces.specs.Idle.{Called, Idles}
 use Rattle.call_pieces.specs.Laws.{IsServed}
 use Rattle.call_pieces.proofs.Placing.{did_is, flush_as, rested}
 use Rattle.call_pieces.proofs.Printed.{bytes_served}
@@ -147,28 +148,31 @@ module _ (p q : Shown) where
 module _ (others : ℕ → Bool) (o : Own) (p q : Shown) (b : Book) (c : Arch) (section : Bool) (runner : IsRunner p) (may : may_draw p.own.steps ≡ true) (runs : o.runs ≡ true) (wants : Wants o c Need.Sbi) (goes : GoesBy 769 IsOfHartCalls p q) (u : Setup) (a : ℕ) (l : Log)
     (x : Rests others o p b (regime c) u a l) where
   -- no page begins to wait for a store over a call
-  settled_by : (o' : Own) → Ends u a l (Tells o' q b (regime c) u a) → Ends u a l (Settles others o' q b (regime c) u a)
+  settled_by : (o' : Own) → Ends u a l (Called o' q b (regime c) u a) → Ends u a l (Counted others o' q b (regime c) u a)
   settled_by o' e = record {
     late = e.late;
     grows = e.grows;
-    holds = record { tells = e.holds; settled = λ page free. unwaited_goes IsOfHartCalls 769 p q u a page l e.late calls_unmarked goes x.tells.tells.stands.is e.holds.tells.stands.is e.grows (x.settled page free) };
+    holds = record {
+      settles = record { tells = e.holds.tells; settled = λ page free. unwaited_goes IsOfHartCalls 769 p q u a page l e.late calls_unmarked goes x.tells.tells.stands.is e.holds.tells.tells.stands.is e.grows (x.settled page free) };
+      counts = e.holds.counts;
+    };
   }
 
   idles : Idles o p b (regime c) u a l
   idles = record { tells = x.tells; idle = x.idle }
 
-  told : (asked : Asked) (call : SbiEnd) (done : HasDone p q section asked call) → IsAsked (layout_of p) c asked → IsServed p asked → Ends u a l (Tells (own_executed (did_call p q section asked call done) o) q b (regime c) u a)
+  told : (asked : Asked) (call : SbiEnd) (done : HasDone p q section asked call) → IsAsked (layout_of p) c asked → IsServed p asked → Ends u a l (Called (own_executed (did_call p q section asked call done) o) q b (regime c) u a)
   told asked call done is s = calls_served p q b c section asked call done runner may is s o wants u a l idles
 
   written : (from count : ℕ) (call : SbiEnd) (s : Bool) (done : HasWritten p q from count call s) → IsAsked (layout_of p) c (Asked.Prints from count) → IsMade call → count ≢ 0 → IsKnownWriting p q from count call s done
-      → Ends u a l (Tells (own_executed (did_writing p q from count call s done) o) q b (regime c) u a)
+      → Ends u a l (Called (own_executed (did_writing p q from count call s done) o) q b (regime c) u a)
   written from count call true done is made some known = bytes_served p q b c from count known.1.0 call done runner may is known.0 known.1.1 o wants u a l idles
   written from count call false (no_byte none same) is made some known = absurd (some none)
   written from count call false (needs_section more same) is made some known = absurd made
 
   -- a hart that names none waits for no fence: the call is done at once
   unnamed : (harts : ℕ) (span : Span) (call : SbiEnd) (done : HasDone p q section (Asked.Fences harts span) call) → IsAsked (layout_of p) c (Asked.Fences harts span) → IsMade call
-      → Ends u a l (Tells (own_executed (did_call p q section (Asked.Fences harts span) call done) o) q b (regime c) u a)
+      → Ends u a l (Called (own_executed (did_call p q section (Asked.Fences harts span) call done) o) q b (regime c) u a)
   unnamed harts span call done is made =
       let asked = Asked.Fences harts span in
       let layout : u.layout ≡ layout_of p = x.tells.tells.stands.layout in
@@ -181,10 +185,13 @@ module _ (others : ℕ → Bool) (o : Own) (p q : Shown) (b : Book) (c : Arch) (
       let k = rested o b (regime c) (only (answer_of call)) u a p l l (record { grows = stays; tells = x.tells }) x.idle there fit (quiet_only a (answer_of call)) in record {
         late = did (Exec a PageFault PageFault (only (answer_of call))) ∷ l;
         grows = k.grows;
-        holds = subst (λ (y : Shown). Tells (own_executed (only (answer_of call)) o) y b (regime c) u a (did (Exec a PageFault PageFault (only (answer_of call))) ∷ l)) (sym done.1) k.tells;
+        holds = record {
+          tells = subst (λ (y : Shown). Tells (own_executed (only (answer_of call)) o) y b (regime c) u a (did (Exec a PageFault PageFault (only (answer_of call))) ∷ l)) (sym done.1) k.tells;
+          counts = counted_did a l (Exec a PageFault PageFault (only (answer_of call))) refl refl;
+        };
       }
 
-  call_told : (asked : Asked) (call : SbiEnd) (done : HasDone p q section asked call) → IsAsked (layout_of p) c asked → IsMade call → IsKnownCall p q section asked call done → Ends u a l (Tells (own_executed (did_call p q section asked call done) o) q b (regime c) u a)
+  call_told : (asked : Asked) (call : SbiEnd) (done : HasDone p q section asked call) → IsAsked (layout_of p) c asked → IsMade call → IsKnownCall p q section asked call done → Ends u a l (Called (own_executed (did_call p q section asked call done) o) q b (regime c) u a)
   call_told (Asked.Gives error value) call done is made known = told (Asked.Gives error value) call done is tt
   call_told (Asked.GivesOne error) call done is made known = told (Asked.GivesOne error) call done is tt
   call_told (Asked.Sends mask) call done is made known = told (Asked.Sends mask) call done is tt
@@ -202,13 +209,13 @@ module _ (others : ℕ → Bool) (o : Own) (p q : Shown) (b : Book) (c : Arch) (
   pub call_served : (asked : Asked) (call : SbiEnd) (end : NeedEnd) (done : HasDone p q section asked call) → IsAsked (layout_of p) c asked → end ≡ end_of_call call → IsNoFence end → IsKnownCall p q section asked call done → Ends u a l (IsServedIn others o end q b (regime c) u a)
   call_served asked call end done is e no_fence known = by call refl
     where
-      executed : IsMade call → Ends u a l (Settles others (own_executed (record (only (answer_of call)) { stops = not (runs_on call) }) o) q b (regime c) u a)
-      executed made = subst (λ (d : Own). Ends u a l (Settles others d q b (regime c) u a))
+      executed : IsMade call → Ends u a l (Counted others (own_executed (record (only (answer_of call)) { stops = not (runs_on call) }) o) q b (regime c) u a)
+      executed made = subst (λ (d : Own). Ends u a l (Counted others d q b (regime c) u a))
           (executed_by (did_call p q section asked call done) o (answer_of call) (not (runs_on call)) (answer_is p q section asked call done) (stops_is p q section c asked call done is))
           (settled_by (own_executed (did_call p q section asked call done) o) (call_told asked call done is made known))
 
-      made_so : (other : SbiEnd) → call ≡ other → IsMade other → Ends u a l (Settles others (own_executed (record (only (answer_of other)) { stops = not (runs_on other) }) o) q b (regime c) u a)
-      made_so other same made = subst (λ (z : SbiEnd). Ends u a l (Settles others (own_executed (record (only (answer_of z)) { stops = not (runs_on z) }) o) q b (regime c) u a)) same (executed (subst IsMade (sym same) made))
+      made_so : (other : SbiEnd) → call ≡ other → IsMade other → Ends u a l (Counted others (own_executed (record (only (answer_of other)) { stops = not (runs_on other) }) o) q b (regime c) u a)
+      made_so other same made = subst (λ (z : SbiEnd). Ends u a l (Counted others (own_executed (record (only (answer_of z)) { stops = not (runs_on z) }) o) q b (regime c) u a)) same (executed (subst IsMade (sym same) made))
 
       ends_as : (other : SbiEnd) → call ≡ other → Ends u a l (IsServedIn others o (end_of_call other) q b (regime c) u a) → Ends u a l (IsServedIn others o end q b (regime c) u a)
       ends_as other same k = subst (λ (z : NeedEnd). Ends u a l (IsServedIn others o z q b (regime c) u a)) (sym (e ∙ ap end_of_call same)) k

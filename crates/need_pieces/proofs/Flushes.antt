@@ -24,7 +24,7 @@ use Rattle.turn_pieces.specs.Log.{Log, did, events_of}
 use Rattle.turn_pieces.specs.Right.{AreFenced, MayBe}
 use Rattle.turn_pieces.specs.Writers.{quietly}
 use Rattle.turn_pieces.proofs.Writers.{ends_then}
-use Rattle.access_pieces.specs.Serving.{MayGiveUp, Rests, Settles, Wants}
+use Rattle.access_pieces.specs.Serving.{Counted, MayGiveUp, Rests, Wants}
 use Rattle.table_pieces.specs.Flushing.{IsNotDue, IsPlaced, flush_made}
 use Rattle.table_pieces.proofs.Placing.{busy_rests, full_is_placed, pages_are_placed}
 use Rattle.flush.specs.Flushed.{full_steps}
@@ -49,9 +49,9 @@ fenced a k what f w c = subst (AreFenced a k) (sym (flushes_own w a c what)) ((�
 
 module _ (others : ℕ → Bool) (o : Own) (p q : Shown) (b b' : Book) (later : Regime) (c : Arch) (u : Setup) (a : ℕ) (l : Log) where
   behind : (what : FlushOf) (made_as : Flush) → includes made_as (flush_named what) ≡ true → IsPlaced others o p q b' later made_as u a l → a < u.layout.harts → Wants o c (Need.Flush what)
-      → Ends u a l (Settles others (own_executed (only Answer.Nothing) o) q b' later u a)
+      → Ends u a l (Counted others (own_executed (only Answer.Nothing) o) q b' later u a)
   behind what made_as asks x hart wants = let k = did (Flushes a made_as) ∷ quietly x.added l in
-      ends_then u a l k (Settles others (own_executed (only Answer.Nothing) o) q b' later u a) x.grows
+      ends_then u a l k (Counted others (own_executed (only Answer.Nothing) o) q b' later u a) x.grows
       (stands_at_rest others o q b' later u a k c (Need.Flush what) Answer.Nothing x.rests hart wants refl (fenced_at what made_as asks x) (λ w m. does_flush w a c what))
     where
       fenced_at : (what : FlushOf) (made_as : Flush) → includes made_as (flush_named what) ≡ true → (x : IsPlaced others o p q b' later made_as u a l) → (w : Surroundings) → MayBe u a (did (Flushes a made_as) ∷ quietly x.added l) w → AreFenced a (did (Flushes a made_as) ∷ quietly x.added l) (flushing w a c (Need.Flush what))

@@ -13,7 +13,7 @@ use Rattle.guest_ram.specs.Ports.{Shown}
 use Rattle.tlb_entry.specs.declared.books.Book.{Book}
 use Rattle.turn_pieces.specs.Grows.{Ends}
 use Rattle.turn_pieces.specs.Log.{Log}
-use Rattle.access_pieces.specs.Serving.{Rests, Served, Settles}
+use Rattle.access_pieces.specs.Serving.{Counted, Rests, Served}
 use Rattle.access_pieces.proofs.Amos.{amos_serve}
 use Rattle.access_pieces.proofs.Loads.{loads_serve}
 use Rattle.access_pieces.proofs.Reserved.{conditionals_serve, reserves_serve}
@@ -66,7 +66,7 @@ needs_served p q b b' c section (Need.Trap cause tval) end form value can served
     (still others o p q b b' c section later can u a l may.rests (ends.Done (Answer.Fault cause tval)) served.1 (trap_served others o p b (regime c) c cause tval u a l may.rests (there others o p q b b' c section later can u a l may.rests) wants)))
 needs_served p q b b' c section (Need.Ipi op) end form value can served no_fence later same others o wants u a l may known =
     as_before others o p q b b' c section later can u a l may.rests end b' same (subst (λ (z : NeedEnd). Ends u a l (IsServedIn others o z q b' (regime c) u a)) (sym served.2)
-    (subst (λ (z : Book). Ends u a l (Settles others (own_executed (only (Answer.Value served.0)) o) q z (regime c) u a)) (sym served.3)
+    (subst (λ (z : Book). Ends u a l (Counted others (own_executed (only (Answer.Value served.0)) o) q z (regime c) u a)) (sym served.3)
     (pending_served others o p q b (regime c) c op served.0 u a l may.rests (there others o p q b b' c section later can u a l may.rests) wants served.1)))
 needs_served p q b b' c section (Need.Flush what) end form value can served no_fence later after others o wants u a l may known =
     flush_served others o p q b b' c what end later u a l can.access.beside served after wants may.rests may.not_due (there others o p q b b' c section later can u a l may.rests)

@@ -11,7 +11,7 @@ use Rattle.machine_model.specs.State.{Setup}
 use Rattle.guest_ram.specs.Ports.{Shown, layout_of}
 use Rattle.tlb_entry.specs.declared.books.Book.{Book}
 use Rattle.turn_pieces.specs.Log.{Log}
-use Rattle.access_pieces.specs.Serving.{MayGiveUp, Rests, Settles}
+use Rattle.access_pieces.specs.Serving.{Counted, MayGiveUp, Rests}
 use Rattle.table_pieces.specs.Flushing.{IsNotDue}
 use Rattle.call_pieces.specs.Printing.{IsInOrder}
 use Rattle.hart_calls.specs.declared.asking.Asked.{Asked}
@@ -53,8 +53,9 @@ answered answer o = own_executed (only answer) o
 abbrev pub halted : Own → Own
 halted o = own_executed (record (only Answer.Nothing) { stops = true }) o
 
--- the instruction was executed with this answer, or stopped its hart; or it is as it was and may be given up
+-- the instruction was executed with this answer, or stopped its hart, and the hart's last event then counts an instruction; or it is as it was and
+-- may be given up
 abbrev pub IsServedIn : (others : ℕ → Bool) → Own → NeedEnd → Shown → Book → Regime → Setup → ℕ → Log → Type 0
-IsServedIn others o (ends.Done answer) q b r u a l = Settles others (answered answer o) q b r u a l
-IsServedIn others o ends.Stopped q b r u a l = Settles others (halted o) q b r u a l
+IsServedIn others o (ends.Done answer) q b r u a l = Counted others (answered answer o) q b r u a l
+IsServedIn others o ends.Stopped q b r u a l = Counted others (halted o) q b r u a l
 IsServedIn others o end q b r u a l = MayGiveUp others o q b r u a l
