@@ -31,6 +31,7 @@ use Rattle.turn_pieces.specs.Log.{Log, events_of, steps_of}
 use Rattle.turn_pieces.specs.Right.{AreFenced, IsExec, MayBe, SeenFor}
 use Rattle.turn_pieces.proofs.Unmarked.{unmarked_did}
 use Rattle.access_pieces.specs.Serving.{Rests, Wants}
+use Rattle.access_pieces.proofs.Counting.{counted_did}
 use Rattle.call_pieces.proofs.Placing.{flush_as, rested}
 use Rattle.fence_pieces.specs.Behind.{IsBehind}
 use Rattle.fence_pieces.specs.Ending.{AreAllDone, FencesAreDone, executed}
@@ -93,4 +94,5 @@ fences_are_done others o q b r c harts span u a base l x hart wants asked behind
     let k = rested o b r (only (Answer.Pair (pos 0) 0)) u a q l l (record { grows = stays; tells = x.tells }) x.idle hart (fit others o q b r c harts span u a base l x wants asked behind done) (quiet_call a) in record {
       grows = k.grows;
       settles = record { tells = k.tells; settled = λ page free. unmarked_did u a page l (executed a) (x.settled page free) };
+      counts = counted_did a l (executed a) refl refl;
     }

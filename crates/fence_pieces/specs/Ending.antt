@@ -7,6 +7,7 @@ use Rattle.rv64_exec.specs.declared.needs.Answer.{Answer}
 use Rattle.rv64_exec.specs.declared.needs.Need.{Need}
 use Rattle.machine_model.specs.Event.{Event, Exec, only}
 use Rattle.machine_model.specs.Own.{Own, own_executed}
+use Rattle.machine_model.specs.Run.{counts, last_of, passes}
 use Rattle.machine_model.specs.State.{Setup}
 use Rattle.guest_ram.specs.Ports.{Shown, layout_of}
 use Rattle.tlb_entry.specs.declared.books.Book.{Book}
@@ -30,10 +31,11 @@ executed a = Exec a PageFault PageFault (only (Answer.Pair (pos 0) 0))
 abbrev pub AreAllDone : (harts : ℕ) → Span → (q : Shown) → (a : ℕ) → (base l : Log) → Type 0
 AreAllDone harts span q a base l = (t : ℕ) → is_named harts t ≡ true → (t ≡ a → ArePiecesFlushed span a a (events_of l)) × (t ≢ a → IsAnsweredAt span t (steps_of base) q)
 
--- the log goes on by the execution, to one that tells of the port as it is
+-- the log goes on by the execution, to one that tells of the port as it is, and the hart's last event then counts an instruction
 pub record IsExecuted (others : ℕ → Bool) (o : Own) (q : Shown) (b : Book) (r : Regime) (u : Setup) (a : ℕ) (l : Log) : Type 0 where
   pub grows : Grows u a l (did (executed a) ∷ l)
   pub settles : Settles others (own_executed (only (Answer.Pair (pos 0) 0)) o) q b r u a (did (executed a) ∷ l)
+  pub counts : passes counts (last_of a (events_of (did (executed a) ∷ l))) ≡ true
 
 -- where all that the fence names is done, in a log with no fetch of the hart's since the base
 abbrev pub FencesAreDone : Type 0

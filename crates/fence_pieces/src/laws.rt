@@ -35,7 +35,7 @@ pub fn law_turns()
 
 /// An accepted fence is executed once it is done: where the hart holds a call for it, all own pieces are flushed since its last fetch if the mask names
 /// it, and each piece was answered at each other hart named since a base with no fetch of the hart's behind it, the log goes on by the call's execution,
-/// which succeeds, and settles with the port as it is.
+/// which succeeds, and settles with the port as it is. The hart's last event is then one that counts an instruction.
 pub fn law_done()
     ensures { FencesAreDone }
 {}
