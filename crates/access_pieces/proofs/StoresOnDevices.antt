@@ -123,7 +123,7 @@ module _ (others : ℕ → Bool) where
               reason = reason;
               is = refl;
               pays = record { does = record { entry_is = refl; bytes_are = sym none; reason_is = refl; starts_is = refl; stops_is = refl }; begins_not = refl };
-              fills_it = cut_none (places k) (bytes k) drawn none;
+              fills_it = λ _. cut_none (places k) (bytes k) drawn none;
             });
           });
           holds = record {
@@ -186,7 +186,7 @@ module _ (others : ℕ → Bool) where
               reason = Reason.OutFull;
               is = refl;
               pays = record { does = record { entry_is = refl; bytes_are = sym none; reason_is = refl; starts_is = refl; stops_is = refl }; begins_not = refl };
-              fills_it = cut_one place (places k) (bytes k) x.beyond drawn none;
+              fills_it = λ _. cut_one place (places k) (bytes k) x.beyond drawn none;
             });
           });
           holds = record {

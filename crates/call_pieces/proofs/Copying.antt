@@ -17,7 +17,6 @@ use Rattle.tlb_entry.specs.declared.books.Book.{Book}
 use Rattle.kept_fills.specs.Fills.{Fill, GoesWithFills}
 use Rattle.kept_fills.proofs.Staying.{fills_stay}
 use Rattle.tlb_fill.proofs.Marking.{same_goes}
-use Rattle.turn_pieces.specs.Doing.{first_drawn}
 use Rattle.turn_pieces.specs.Draws.{may_draw, may_draw_next}
 use Rattle.turn_pieces.specs.Folds.{drawn_next, known_word_next, stored_next, unstored_next}
 use Rattle.turn_pieces.specs.Kept.{known_word, places}
@@ -35,8 +34,8 @@ use Rattle.guest_devices.specs.Output.{HasPut}
 use Rattle.hart_calls.specs.Called.{IsOfHartCalls}
 use Rattle.hart_calls.specs.Printing.{HasCopied, HasLoaded, HasLoadedIf, begins_word}
 use Rattle.hart_calls.proofs.Printed.{beside}
-use Rattle.call_pieces.specs.Printing.{AreInOrder}
 use Rattle.call_pieces.proofs.Placing.{calls_off}
+use Rattle.call_pieces.proofs.Room.{AreWithin}
 
 -- the bytes so far, and one more
 pub bytes_snoc : (m : Memory) (from n : ℕ) → bytes_from m from (suc n) ≡ bytes_from m from n ++ byte_at m (from + n) ∷ []
@@ -61,17 +60,16 @@ stored_load i (d ∷ ds) bs e = refl
 pub AreKnown : (finds : Memory) (from n : ℕ) → Log → Type 0
 AreKnown finds from n l = (i : ℕ) → i < n → known_word (ram_word (from + i)) l ≡ Some (finds (ram_word (from + i)))
 
-module _ (o : Own) (b : Book) (r : Regime) (u : Setup) (a : ℕ) (kept : List Fill) (finds : Memory) (from first : ℕ) where
-  -- so many bytes were put, in places from the first one on
+module _ (o : Own) (b : Book) (r : Regime) (u : Setup) (a : ℕ) (kept : List Fill) (finds : Memory) (from : ℕ) where
+  -- so many bytes were put, the last of them in a place that there is
   pub record Copying (n : ℕ) (x : Shown) (l k : Log) : Type 0 where
     pub grows : Grows u a l k
     pub stands : writers.Stands o (view x) u a k
     pub drawn : List ℕ
     pub call : writers.InCall u a drawn (bytes_from finds from n) k
     pub many : length drawn ≡ n
-    pub first_is : n ≢ 0 → first_drawn drawn ≡ Some first
     pub owes : n ≢ 0 → owed k ≡ fills
-    pub last : n ≢ 0 → first + n ≤ console_places
+    pub last : AreWithin drawn
     pub may : may_draw (steps_of k) ≡ true
     pub known : (i : ℕ) → i < n → known_word (ram_word (from + i)) k ≡ Some (finds (ram_word (from + i)))
     pub goes : GoesWithFills x b r (flushes_in a k) kept
@@ -90,8 +88,7 @@ module _ (o : Own) (b : Book) (r : Regime) (u : Setup) (a : ℕ) (kept : List Fi
     pub drawn : List ℕ
     pub call : writers.InCall u a drawn (bytes_from finds from n) k
     pub many : length drawn ≡ n
-    pub first_is : n ≢ 0 → first_drawn drawn ≡ Some first
-    pub last : n ≢ 0 → first + n ≤ console_places
+    pub last : AreWithin drawn
     pub may : may_draw (steps_of k) ≡ true
     pub known : (i : ℕ) → i < suc n → known_word (ram_word (from + i)) k ≡ Some (finds (ram_word (from + i)))
     pub goes : GoesWithFills x b r (flushes_in a k) kept
@@ -132,7 +129,6 @@ module _ (o : Own) (b : Book) (r : Regime) (u : Setup) (a : ℕ) (kept : List Fi
           inside = plain_section u a s (steps_of k) (subst (λ w. Plain w Load) (sym m.name) tt) c.call.inside;
         };
         many = c.many;
-        first_is = c.first_is;
         last = c.last;
         may = ap (λ w. may_draw_next w Load 0 (finds word) (may_draw (steps_of k))) m.name ∙ c.may;
         known = up_to (KnownAt (made s ∷ k)) n (λ i less. known_load (ram_word (from + i)) word (name_of word) m.index k m.name (c.known i less)) (known_here word (name_of word) m.index (known_word word k) m.name);
@@ -146,7 +142,6 @@ module _ (o : Own) (b : Book) (r : Regime) (u : Setup) (a : ℕ) (kept : List Fi
     drawn = c.drawn;
     call = c.call;
     many = c.many;
-    first_is = c.first_is;
     last = c.last;
     may = c.may;
     known = up_to (KnownAt k) n c.known here;
@@ -160,29 +155,23 @@ module _ (o : Own) (b : Book) (r : Regime) (u : Setup) (a : ℕ) (kept : List Fi
   ready n x mid l k above c true begins m = (_, loaded_ready n x mid l k c m)
   ready n x mid l k above c false begins same = (k, subst (λ (y : Shown). Ready n y l k) (sym same) (same_ready n x l k above begins c))
 
-  pub first_more : (ds : List ℕ) (n place : ℕ) → length ds ≡ n → (n ≢ 0 → first_drawn ds ≡ Some first) → place ≡ first + n → first_drawn (place ∷ ds) ≡ Some first
-  first_more [] n place many is at = let same : place ≡ first = omega (arith, many, at) in ap (λ i. Some i) same
-  first_more (d ∷ ds) n place many is at = is (λ z. let some = many in absurd (omega (arith, some, z)))
-
-  pub byte_copied : (n : ℕ) (mid y : Shown) (l k : Log) → Ready n mid l k → (m : HasPut (byte_at finds (from + n)) mid y) → m.place ≡ first + n
+  pub byte_copied : (n : ℕ) (mid y : Shown) (l k : Log) → Ready n mid l k → (m : HasPut (byte_at finds (from + n)) mid y)
       → Copying (suc n) y l (made (step_of m.mid.own.actor m.stores.word Store (byte_at finds (from + n) + 2 ^ 8) 0) ∷ made (step_of mid.own.actor m.draws.word Add 1 m.place) ∷ k)
-  byte_copied n mid y l k c m at =
+  byte_copied n mid y l k c m =
       let byte = byte_at finds (from + n) in
       let s = step_of mid.own.actor m.draws.word Add 1 m.place in
       let t = step_of m.mid.own.actor m.stores.word Store (byte + 2 ^ 8) 0 in
       let k1 = made s ∷ k in
       let even : length c.drawn ≡ length (bytes_from finds from n) = c.many ∙ sym (bytes_many n) in
       let left : unstored k1 ≡ None = ap (λ w. unstored_next w Add m.place [] (unstored k)) m.draws.name ∙ c.call.none in
-      let went = call_goes u a k c.drawn (bytes_from finds from n) c.call even s m.draws.name refl refl c.may t byte m.stores.name refl refl in
-      let less = m.less in record {
+      let went = call_goes u a k c.drawn (bytes_from finds from n) c.call even s m.draws.name refl refl c.may t byte m.stores.name refl refl in record {
         grows = grows_then u a l k c.grows (call_byte u a k c.drawn (bytes_from finds from n) c.call even s m.draws.name refl refl c.may t byte m.less m.stores.name refl refl);
         stands = step_stands o (view m.mid) (view y) u a k1 t (ap view m.stores.step) (step_stands o (view mid) (view m.mid) u a k s (ap view m.draws.step) c.stands);
         drawn = m.place ∷ c.drawn;
         call = subst (λ bs. writers.InCall u a (m.place ∷ c.drawn) bs (made t ∷ k1)) (sym (bytes_snoc finds from n)) went;
         many = ap suc c.many;
-        first_is = λ some. first_more c.drawn n m.place c.many c.first_is at;
         owes = λ some. owed_named k1 t (Console m.place) Store m.stores.name refl ∙ ap owes_byte left;
-        last = λ some. omega (arith, less, at);
+        last = m.less;
         may = ap (λ w. may_draw_next w Store (byte + 2 ^ 8) 0 (may_draw (steps_of k1))) m.stores.name ∙ ap (λ w. may_draw_next w Add 1 m.place (may_draw (steps_of k))) m.draws.name
             ∙ ap (λ (z : Bool). z && nat_lt m.place console_places) c.may ∙ lt-ltb m.place console_places m.less;
         known = λ i lower. (ap (λ w. known_word_next (ram_word (from + i)) w Store m.stores.word 0 (known_word (ram_word (from + i)) k1)) m.stores.name
@@ -192,9 +181,9 @@ module _ (o : Own) (b : Book) (r : Regime) (u : Setup) (a : ℕ) (kept : List Fi
       }
 
   -- all of them
-  pub copied : (n : ℕ) (p x : Shown) (l : Log) → 2 ^ 31 ≤ from → Copying 0 p l l → (c : HasCopied finds from n p x) → AreInOrder finds from first n p x c → (late : Log) × Copying n x l late
-  copied zero p x l above begin same order = (l, subst (λ (y : Shown). Copying 0 y l l) (sym same) begin)
-  copied (suc n) p x l above begin c order =
-      let before = copied n p c.0 l above begin c.1 order.0 in
+  pub copied : (n : ℕ) (p x : Shown) (l : Log) → 2 ^ 31 ≤ from → Copying 0 p l l → (c : HasCopied finds from n p x) → (late : Log) × Copying n x l late
+  copied zero p x l above begin same = (l, subst (λ (y : Shown). Copying 0 y l l) (sym same) begin)
+  copied (suc n) p x l above begin c =
+      let before = copied n p c.0 l above begin c.1 in
       let at = ready n c.0 c.2.mid l before.0 above before.1 (begins_word from n) refl c.2.loads in
-      (_, byte_copied n c.2.mid x l at.0 at.1 c.2.puts order.1)
+      (_, byte_copied n c.2.mid x l at.0 at.1 c.2.puts)

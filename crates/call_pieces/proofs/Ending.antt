@@ -66,7 +66,7 @@ module _ (o : Own) (b : Book) (r : Regime) (u : Setup) (a : ℕ) where
       let left : unstored (made s ∷ k) ≡ None = ap (λ w. unstored_next w (Exchange 0) m.found [] (unstored k)) v.name ∙ t.tells.tells.none_left in
       placed o b r (record (only answer) { reason = Some reason }) u a x y Stop (Exchange 0) (reason_word reason) m.found v (gives (reason_word reason)) l k tt t hart
       (free u a k t.tells.tells.clear s Stop (Exchange 0) v.name refl refl tt tt) (owed_named k s Stop (Exchange 0) v.name refl) drawn left (λ bs. refl) fit
-      (record { reason = reason; is = refl; pays = record { does = record { entry_is = refl; bytes_are = sym none; reason_is = refl; starts_is = refl; stops_is = refl }; begins_not = refl }; fills_it = cut_none (places (made s ∷ k)) (bytes (made s ∷ k)) drawn none })
+      (record { reason = reason; is = refl; pays = record { does = record { entry_is = refl; bytes_are = sym none; reason_is = refl; starts_is = refl; stops_is = refl }; begins_not = refl }; fills_it = λ _. cut_none (places (made s ∷ k)) (bytes (made s ∷ k)) drawn none })
 
   -- a byte is drawn a place, at which the execution stands, and is stored there
   pub byte_placed : (answer : Answer) (byte : ℕ) (x y : Shown) (m : HasPut byte x y) (l k : Log) → Behind o b r u a x l k → a < u.layout.harts → may_draw (steps_of k) ≡ true
@@ -143,7 +143,7 @@ module _ (o : Own) (b : Book) (r : Regime) (u : Setup) (a : ℕ) where
             reason = Reason.OutFull;
             is = refl;
             pays = record { does = record { entry_is = refl; bytes_are = sym none; reason_is = refl; starts_is = refl; stops_is = refl }; begins_not = refl };
-            fills_it = cut_one place (places k2) (bytes k2) m.beyond drawn none;
+            fills_it = λ _. cut_one place (places k2) (bytes k2) m.beyond drawn none;
           });
         });
         tells = record {

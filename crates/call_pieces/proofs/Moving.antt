@@ -129,7 +129,7 @@ module _ (o : Own) (b : Book) (r : Regime) (u : Setup) (a : ℕ) where
             reason = Reason.AllStopped;
             is = refl;
             pays = record { does = record { entry_is = refl; bytes_are = sym none; reason_is = refl; starts_is = refl; stops_is = refl }; begins_not = refl };
-            fills_it = cut_none (places k2) (bytes k2) drawn none;
+            fills_it = λ _. cut_none (places k2) (bytes k2) drawn none;
           });
         });
         tells = record {

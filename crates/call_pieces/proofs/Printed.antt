@@ -1,7 +1,6 @@
 -- Bytes of RAM that a call prints in its section are one execution.
-use Rattle.std.proofs.Common.{◌≡◌, ◌≢◌, ◌⊎◌, ℕ, zero, suc, ◌+◌, ◌<◌, ◌≤◌, ◌^◌, Bool, true, false, List, [], ◌∷◌, Some, None, refl, sym, ap, subst, ◌∙◌, arith, length, inl, inr}
+use Rattle.std.proofs.Common.{◌≡◌, ◌≢◌, ℕ, zero, suc, ◌+◌, ◌<◌, ◌≤◌, ◌^◌, Bool, true, false, List, [], ◌∷◌, Some, None, refl, sym, ap, subst, ◌∙◌, arith, length}
 use Rattle.std.specs.Prelude.{◌-◌, ◌/◌, nat_lt, if◌then◌else◌}
-use Rattle.std.proofs.lemmas.Bool.{cases_eq}
 use Rattle.rv64_priv.specs.State.{Arch}
 use Rattle.rv64_priv.specs.Csr.{regime}
 use Rattle.rv64_priv.specs.Walk.{PageFault}
@@ -28,7 +27,7 @@ use Rattle.guest_devices.specs.Output.{HasSetStop}
 use Rattle.tlb_entry.specs.declared.books.Book.{Book}
 use Rattle.kept_fills.proofs.Staying.{fills_stay}
 use Rattle.tlb_fill.proofs.Marking.{same_goes}
-use Rattle.turn_pieces.specs.Doing.{IsCutShort, first_drawn}
+use Rattle.turn_pieces.specs.Doing.{AreFollowing, HasRoom, IsCutShort, first_drawn}
 use Rattle.turn_pieces.specs.Draws.{may_draw}
 use Rattle.turn_pieces.specs.Folds.{are_some, drawn_next, known_word_next, stored_next, unstored_next}
 use Rattle.turn_pieces.specs.Kept.{bytes, known_word, places}
@@ -40,6 +39,7 @@ use Rattle.turn_pieces.specs.Grows.{Ends, IsClear, Part, does, makes, stays}
 use Rattle.turn_pieces.specs.Shared.{IsShared}
 use Rattle.turn_pieces.proofs.Accesses.{step_stands}
 use Rattle.turn_pieces.proofs.Calls.{call_begins}
+use Rattle.turn_pieces.proofs.Following.{first_there}
 use Rattle.turn_pieces.proofs.Offers.{draw_in_call, free, print_all}
 use Rattle.turn_pieces.proofs.Sections.{Plain, plain_section}
 use Rattle.turn_pieces.proofs.Writers.{grows_then, owed_named, tells_did}
@@ -55,8 +55,9 @@ use Rattle.hart_calls.specs.Printing.{HasCopied, HasRunOut, begins_word}
 use Rattle.hart_calls.specs.States.{IsRunner}
 use Rattle.call_laws.specs.Did.{did_writing}
 use Rattle.call_laws.specs.Found.{IsFoundFrom, IsFoundWriting}
-use Rattle.call_pieces.specs.Printing.{BytesAreServed, IsInOrder}
-use Rattle.call_pieces.proofs.Copying.{Copying, bytes_many, copied, first_more, ready}
+use Rattle.call_pieces.specs.Printing.{BytesAreServed}
+use Rattle.call_pieces.proofs.Copying.{Copying, bytes_many, copied, ready}
+use Rattle.call_pieces.proofs.Room.{AreWithin, cut_there, room_left, room_there}
 use Rattle.call_pieces.proofs.Placing.{calls_off, did_is, exec_fit, flush_as}
 use Rattle.call_pieces.proofs.Served.{calls_served}
 
@@ -76,7 +77,7 @@ not_below n le = grind (arith, le)
 ram_shared : (pa : ℕ) → IsShared (name_of (ram_word pa))
 ram_shared pa = subst IsShared (sym (named_ram ((pa - 2 ^ 31) / 8))) tt
 
-module _ (p q : Shown) (b : Book) (c : Arch) (from count first : ℕ) (runner : IsRunner p) (may : may_draw p.own.steps ≡ true) (is : IsAsked (layout_of p) c (Asked.Prints from count)) (inside : IsInSection (layout_of p) p.own.actor p.own.steps)
+module _ (p q : Shown) (b : Book) (c : Arch) (from count : ℕ) (runner : IsRunner p) (may : may_draw p.own.steps ≡ true) (is : IsAsked (layout_of p) c (Asked.Prints from count)) (inside : IsInSection (layout_of p) p.own.actor p.own.steps)
     (some : count ≢ 0) (o : Own) (wants : Wants o c Need.Sbi) (u : Setup) (a : ℕ) (l : Log) (t : Idles o p b (regime c) u a l) where
   layout_is : u.layout ≡ layout_of p
   layout_is = t.tells.tells.stands.layout
@@ -90,16 +91,15 @@ module _ (p q : Shown) (b : Book) (c : Arch) (from count first : ℕ) (runner : 
   above : 2 ^ 31 ≤ from
   above = let x = is.sound.1 some in x.0
 
-  begins : (finds : Memory) → Copying o b (regime c) u a t.tells.fills finds from first 0 p l l
+  begins : (finds : Memory) → Copying o b (regime c) u a t.tells.fills finds from 0 p l l
   begins finds = record {
     grows = stays;
     stands = t.tells.tells.stands;
     drawn = [];
     call = call_begins u a l t.tells.tells.clear t.tells.tells.none_drawn t.tells.tells.none_left inside_there;
     many = refl;
-    first_is = λ z. absurd (z refl);
     owes = λ z. absurd (z refl);
-    last = λ z. absurd (z refl);
+    last = tt;
     may = subst (λ (r : List Step). may_draw r ≡ true) (sym t.tells.tells.stands.is) may;
     known = λ i less. absurd (omega (arith, less));
     goes = t.tells.goes;
@@ -116,19 +116,18 @@ module _ (p q : Shown) (b : Book) (c : Arch) (from count first : ℕ) (runner : 
   memory_found finds n k w few m sect known = λ i less. m.section sect (ram_word (from + i)) (finds (ram_word (from + i))) (ram_shared (from + i)) (known i less)
 
   -- all find a place: the execution stands at the last store
-  pub all_served : (finds : Memory) (x : HasCopied finds from count p q) → Rattle.call_pieces.specs.Printing.AreInOrder finds from first count p q x → Ends u a l (Called (own_executed (did_writing p q from count (succeeds count) true (all_put finds some x)) o) q b (regime c) u a)
-  all_served finds x order =
-      let z = copied o b (regime c) u a t.tells.fills finds from first count p q l above (begins finds) x order in
+  pub all_served : (finds : Memory) (x : HasCopied finds from count p q) → Ends u a l (Called (own_executed (did_writing p q from count (succeeds count) true (all_put finds some x)) o) q b (regime c) u a)
+  all_served finds x =
+      let z = copied o b (regime c) u a t.tells.fills finds from count p q l above (begins finds) x in
       let k = z.0 in
       let y = z.1 in
       let out = did_writing p q from count (succeeds count) true (all_put finds some x) in
       let e = Exec a PageFault PageFault out in
-      let opened : first_drawn (places k) ≡ Some first = ap first_drawn y.call.drawn ∙ y.first_is some in
       let size : length (places k) ≡ count = ap length y.call.drawn ∙ y.many in
-      let last : first + count ≤ console_places = y.last some in
-      let fit = fits (succeeds count) (all_put finds some x) k (λ w m. (memory_found finds count k w (omega arith) m y.call.inside y.known, (let room = m.room first opened in omega (arith, room, last)))) in record {
+      let room : AreFollowing (places k) → HasRoom (places k) = room_there (places k) (λ none. some (sym size ∙ none)) (subst AreWithin (sym y.call.drawn) y.last) in
+      let fit = fits (succeeds count) (all_put finds some x) k (λ w m. (memory_found finds count k w (omega arith) m y.call.inside y.known, enough w m (room m.follow) size)) in record {
         late = did e ∷ k;
-        grows = grows_then u a l k y.grows (print_all u a k e first (y.owes some) opened (omega (arith, size, last)) refl (subst (IsFit u a k e) (sym y.stands.part_is) (there, fit))
+        grows = grows_then u a l k y.grows (print_all u a k e (y.owes some) room refl (subst (IsFit u a k e) (sym y.stands.part_is) (there, fit))
             (record { does = record { entry_is = refl; bytes_are = sym y.call.stored; reason_is = refl; starts_is = refl; stops_is = refl }; begins_not = refl }));
         holds = record {
           tells = record {
@@ -139,15 +138,18 @@ module _ (p q : Shown) (b : Book) (c : Arch) (from count first : ℕ) (runner : 
           counts = counted_did a k e refl refl;
         };
       }
+    where
+      enough : {k : Log} (w : Surroundings) → MayBe u a k w → HasRoom (places k) → length (places k) ≡ count → count ≤ w.room
+      enough w m room size = let free = m.room room.first room.first_is in let fit = room.fits in omega (arith, free, fit, size)
 
   -- one finds none: STOP is exchanged, and the execution stands there
-  pub short_served : (finds : Memory) (mid : Shown) (stands : Reason) (x : HasRunOut finds from count p mid) (y : HasSetStop Reason.OutFull stands mid q) → Rattle.call_pieces.specs.Printing.AreInOrder finds from first x.put p x.mid x.copies → x.stops.place ≡ first + x.put
+  pub short_served : (finds : Memory) (mid : Shown) (stands : Reason) (x : HasRunOut finds from count p mid) (y : HasSetStop Reason.OutFull stands mid q)
       → Ends u a l (Called (own_executed (did_writing p q from count (SbiEnd.Over Reason.OutFull) true (fills finds mid stands x y)) o) q b (regime c) u a)
-  short_served finds mid stands x y order at =
+  short_served finds mid stands x y =
       let n = x.put in
       let f = x.stops in
-      let z = copied o b (regime c) u a t.tells.fills finds from first n p x.mid l above (begins finds) x.copies order in
-      let g = ready o b (regime c) u a t.tells.fills finds from first n x.mid f.mid l z.0 above z.1 (begins_word from n) refl f.loads in
+      let z = copied o b (regime c) u a t.tells.fills finds from n p x.mid l above (begins finds) x.copies in
+      let g = ready o b (regime c) u a t.tells.fills finds from n x.mid f.mid l z.0 above z.1 (begins_word from n) refl f.loads in
       let k = g.0 in
       let j = g.1 in
       let s = step_of f.mid.own.actor f.draws.draws.word Add 1 f.place in
@@ -158,7 +160,7 @@ module _ (p q : Shown) (b : Book) (c : Arch) (from count first : ℕ) (runner : 
       let e = Exec a PageFault PageFault out in
       let fewer = x.fewer in
       let beyond = f.draws.beyond in
-      let even : length j.drawn ≡ length (bytes_from finds from n) = j.many ∙ sym (bytes_many o b (regime c) u a t.tells.fills finds from first n) in
+      let even : length j.drawn ≡ length (bytes_from finds from n) = j.many ∙ sym (bytes_many o b (regime c) u a t.tells.fills finds from n) in
       let drawn1 : places k1 ≡ f.place ∷ j.drawn = ap (λ w. drawn_next w Add f.place (places k)) f.draws.draws.name ∙ ap (λ ds. f.place ∷ ds) j.call.drawn in
       let drawn : places k2 ≡ f.place ∷ j.drawn = ap (λ w. drawn_next w (Exchange 0) y.found (places k1)) y.exchanges.name ∙ drawn1 in
       let stored1 : bytes k1 ≡ bytes_from finds from n = (λ i. stored_next (f.draws.draws.name i) Add 1 (j.call.drawn i) (j.call.stored i)) ∙ stored_add j.drawn (bytes_from finds from n) even in
@@ -169,12 +171,12 @@ module _ (p q : Shown) (b : Book) (c : Arch) (from count first : ℕ) (runner : 
       let clear : IsClear (owed k1) = subst IsClear (sym idle) tt in
       let due : owed k2 ≡ gives 4 = owed_named k1 d Stop (Exchange 0) y.exchanges.name refl in
       let st = step_stands o (view mid) (view q) u a k1 d (ap view y.exchanges.step) (step_stands o (view f.mid) (view mid) u a k s (ap view f.draws.draws.step) j.stands) in
-      let opened : first_drawn (f.place ∷ j.drawn) ≡ Some first = first_more o b (regime c) u a t.tells.fills finds from first j.drawn n f.place j.many j.first_is at in
-      let filled : console_places - first ≡ n = full_at n j.last beyond at in
+      let opened = first_there f.place j.drawn in
+      let filled : AreFollowing (places k2) → console_places - opened.0 ≡ n = λ follow. room_left f.place j.drawn j.last beyond (subst AreFollowing drawn follow) opened.0 opened.1 ∙ j.many in
       let within : IsInSection u.layout a (steps_of k2) = plain_section u a d (steps_of k1) (subst (λ w. Plain w (Exchange 0)) (sym y.exchanges.name) tt) (plain_section u a s (steps_of k) (subst (λ w. Plain w Add) (sym f.draws.draws.name) tt) j.call.inside) in
       let known : (i : ℕ) → i < n → known_word (ram_word (from + i)) k2 ≡ Some (finds (ram_word (from + i))) = λ i less. ap (λ w. known_word_next (ram_word (from + i)) w (Exchange 0) y.exchanges.word y.found (known_word (ram_word (from + i)) k1)) y.exchanges.name
       ∙ ap (λ w. known_word_next (ram_word (from + i)) w Add f.draws.draws.word f.place (known_word (ram_word (from + i)) k)) f.draws.draws.name ∙ j.known i (omega (arith, less)) in
-      let fit = fits (SbiEnd.Over Reason.OutFull) (fills finds mid stands x y) k2 (λ w m. (memory_found finds n k2 w (omega (arith, fewer)) m within known, m.room first (ap first_drawn drawn ∙ opened) ∙ filled)) in record {
+      let fit = fits (SbiEnd.Over Reason.OutFull) (fills finds mid stands x y) k2 (λ w m. (memory_found finds n k2 w (omega (arith, fewer)) m within known, m.room opened.0 (ap first_drawn drawn ∙ opened.1) ∙ filled m.follow)) in record {
         late = did e ∷ k2;
         grows = does e (makes d (grows_then u a l k j.grows (draw_in_call u a k s f.draws.draws.name refl refl j.may j.call.rests)) (free u a k1 clear d Stop (Exchange 0) y.exchanges.name refl refl tt tt)) (record {
           own = refl;
@@ -183,10 +185,8 @@ module _ (p q : Shown) (b : Book) (c : Arch) (from count first : ℕ) (runner : 
             reason = Reason.OutFull;
             is = refl;
             pays = record { does = record { entry_is = refl; bytes_are = sym stored; reason_is = refl; starts_is = refl; stops_is = refl }; begins_not = refl };
-            fills_it = subst (λ ds. IsCutShort ds (bytes k2)) (sym drawn) (subst (IsCutShort (f.place ∷ j.drawn)) (sym stored) (record {
-              none = λ v. absurd (cc (v));
-              some = λ i v. (bytes_many o b (regime c) u a t.tells.fills finds from first n ∙ sym filled ∙ ap (λ m. console_places - m) (same_first first i (sym opened ∙ v)), cut_behind n i f.place j.drawn j.many (same_first first i (sym opened ∙ v)) beyond at);
-            }));
+            fills_it = λ follow. subst (λ ds. IsCutShort ds (bytes k2)) (sym drawn) (subst (IsCutShort (f.place ∷ j.drawn)) (sym stored)
+                (cut_there f.place j.drawn (bytes_from finds from n) j.last beyond (sym even) (subst AreFollowing drawn follow)));
           });
         });
         holds = record {
@@ -199,28 +199,15 @@ module _ (p q : Shown) (b : Book) (c : Arch) (from count first : ℕ) (runner : 
           counts = counted_did a k2 e refl refl;
         };
       }
-    where
-      same_first : (m i : ℕ) → Some m ≡ Some i → m ≡ i
-      same_first m i e = cc
-
-      full_at : (n : ℕ) → (n ≢ 0 → first + n ≤ console_places) → console_places ≤ x.stops.place → x.stops.place ≡ first + n → console_places - first ≡ n
-      full_at n last beyond at = go (cases_eq n 0)
-        where
-          go : (n ≡ 0) ⊎ (n ≡ 0 → ⊥) → console_places - first ≡ n
-          go (inl e) = omega (arith, e, beyond, at)
-          go (inr e) = let few = last e in omega (arith, few, beyond, at)
-
-      cut_behind : (n i place : ℕ) (ds : List ℕ) → length ds ≡ n → first ≡ i → console_places ≤ place → place ≡ first + n → console_places < i + suc (length ds)
-      cut_behind n i place ds many e beyond at = omega (arith, many, e, beyond, at)
 
 none_served : (p q : Shown) (b : Book) (c : Arch) (from count : ℕ) (end : SbiEnd) (done : HasWritten p q from count end true) → IsRunner p → may_draw p.own.steps ≡ true → IsAsked (layout_of p) c (Asked.Prints from count) → count ≡ 0
     → (o : Own) → Wants o c Need.Sbi → Part (Idles o p b (regime c)) (Called (own_executed (did_writing p q from count end true done) o) q b (regime c))
 none_served p q b c from count end done runner may is none o wants = calls_served p q b c true (Asked.Prints from count) end done runner may is none o wants
 
 pub bytes_served : BytesAreServed
-bytes_served p q b c from count first end (no_byte none same) runner may is inside order o wants = none_served p q b c from count end (no_byte none same) runner may is none o wants
-bytes_served p q b c from count first end (all_put finds some x) runner may is inside order o wants = λ u a l t. all_served p q b c from count first runner may is inside some o wants u a l t finds x order
-bytes_served p q b c from count first end (fills finds mid stands x y) runner may is inside order o wants =
+bytes_served p q b c from count end (no_byte none same) runner may is inside o wants = none_served p q b c from count end (no_byte none same) runner may is none o wants
+bytes_served p q b c from count end (all_put finds some x) runner may is inside o wants = λ u a l t. all_served p q b c from count runner may is inside some o wants u a l t finds x
+bytes_served p q b c from count end (fills finds mid stands x y) runner may is inside o wants =
     let fewer = x.fewer in
     let some : count ≢ 0 = λ e. omega (arith, fewer, e) in
-    λ u a l t. short_served p q b c from count first runner may is inside some o wants u a l t finds mid stands x y order.0 order.1
+    λ u a l t. short_served p q b c from count runner may is inside some o wants u a l t finds mid stands x y

@@ -9,7 +9,7 @@ pub fn law_served()
     ensures own_starts { OwnStartsAreServed }
 {}
 
-/// So it does for a call that prints bytes of RAM in its section, where the places that it drew follow one another.
+/// So it does for a call that prints bytes of RAM in its section.
 pub fn law_printed()
     ensures { BytesAreServed }
 {}

@@ -24,6 +24,7 @@ use Rattle.turn_pieces.specs.Doing.{IsQuiet}
 use Rattle.turn_pieces.specs.Log.{Log, did}
 use Rattle.turn_pieces.specs.Right.{AreFenced}
 use Rattle.turn_pieces.proofs.Unmarked.{is_other}
+use Rattle.access_pieces.specs.Laws.{IsTold}
 use Rattle.access_pieces.specs.Serving.{Counted, MayGiveUp, Rests, Tells, Wants}
 use Rattle.hart_calls.specs.declared.asking.Asked.{Asked}
 use Rattle.hart_calls.specs.declared.outcomes.SbiEnd.{SbiEnd}
@@ -42,7 +43,7 @@ use Rattle.call_pieces.proofs.Printed.{bytes_served}
 use Rattle.call_pieces.proofs.Served.{calls_served, own_starts_served}
 use Rattle.need_serving.specs.declared.ends.NeedEnd.{NeedEnd}
 use Rattle.need_serving.specs.Ends.{end_of_call}
-use Rattle.need_pieces.specs.Serving.{IsKnownCall, IsKnownWriting, IsServedIn}
+use Rattle.need_pieces.specs.Serving.{IsServedIn}
 use Rattle.need_pieces.specs.Laws.{IsNoFence}
 use Rattle.need_pieces.proofs.Alone.{exec_fit}
 use Rattle.need_pieces.proofs.Executed.{answer_is, executed_by, stops_is}
@@ -145,7 +146,7 @@ module _ (p q : Shown) where
   fence_waits section (Asked.PrintsOne byte) call mask over (put x) e = cc
   fence_waits section (Asked.PrintsOne byte) call mask over (found_full place mid stands x y) e = cc
 
-module _ (others : ℕ → Bool) (o : Own) (p q : Shown) (b : Book) (c : Arch) (section : Bool) (runner : IsRunner p) (may : may_draw p.own.steps ≡ true) (runs : o.runs ≡ true) (wants : Wants o c Need.Sbi) (goes : GoesBy 769 IsOfHartCalls p q) (u : Setup) (a : ℕ) (l : Log)
+module _ (others : ℕ → Bool) (o : Own) (p q : Shown) (b : Book) (c : Arch) (section : Bool) (runner : IsRunner p) (may : may_draw p.own.steps ≡ true) (inside : IsTold section p) (runs : o.runs ≡ true) (wants : Wants o c Need.Sbi) (goes : GoesBy 769 IsOfHartCalls p q) (u : Setup) (a : ℕ) (l : Log)
     (x : Rests others o p b (regime c) u a l) where
   -- no page begins to wait for a store over a call
   settled_by : (o' : Own) → Ends u a l (Called o' q b (regime c) u a) → Ends u a l (Counted others o' q b (regime c) u a)
@@ -164,11 +165,11 @@ module _ (others : ℕ → Bool) (o : Own) (p q : Shown) (b : Book) (c : Arch) (
   told : (asked : Asked) (call : SbiEnd) (done : HasDone p q section asked call) → IsAsked (layout_of p) c asked → IsServed p asked → Ends u a l (Called (own_executed (did_call p q section asked call done) o) q b (regime c) u a)
   told asked call done is s = calls_served p q b c section asked call done runner may is s o wants u a l idles
 
-  written : (from count : ℕ) (call : SbiEnd) (s : Bool) (done : HasWritten p q from count call s) → IsAsked (layout_of p) c (Asked.Prints from count) → IsMade call → count ≢ 0 → IsKnownWriting p q from count call s done
+  written : (from count : ℕ) (call : SbiEnd) (s : Bool) (done : HasWritten p q from count call s) → IsAsked (layout_of p) c (Asked.Prints from count) → IsMade call → count ≢ 0 → IsTold s p
       → Ends u a l (Called (own_executed (did_writing p q from count call s done) o) q b (regime c) u a)
-  written from count call true done is made some known = bytes_served p q b c from count known.1.0 call done runner may is known.0 known.1.1 o wants u a l idles
-  written from count call false (no_byte none same) is made some known = absurd (some none)
-  written from count call false (needs_section more same) is made some known = absurd made
+  written from count call true done is made some within = bytes_served p q b c from count call done runner may is (within refl) o wants u a l idles
+  written from count call false (no_byte none same) is made some within = absurd (some none)
+  written from count call false (needs_section more same) is made some within = absurd made
 
   -- a hart that names none waits for no fence: the call is done at once
   unnamed : (harts : ℕ) (span : Span) (call : SbiEnd) (done : HasDone p q section (Asked.Fences harts span) call) → IsAsked (layout_of p) c (Asked.Fences harts span) → IsMade call
@@ -191,28 +192,28 @@ module _ (others : ℕ → Bool) (o : Own) (p q : Shown) (b : Book) (c : Arch) (
         };
       }
 
-  call_told : (asked : Asked) (call : SbiEnd) (done : HasDone p q section asked call) → IsAsked (layout_of p) c asked → IsMade call → IsKnownCall p q section asked call done → Ends u a l (Called (own_executed (did_call p q section asked call done) o) q b (regime c) u a)
-  call_told (Asked.Gives error value) call done is made known = told (Asked.Gives error value) call done is tt
-  call_told (Asked.GivesOne error) call done is made known = told (Asked.GivesOne error) call done is tt
-  call_told (Asked.Sends mask) call done is made known = told (Asked.Sends mask) call done is tt
-  call_told (Asked.Fences harts span) call done is made known = unnamed harts span call done is made
-  call_told (Asked.Starts target at opaque) call done is made known =
+  call_told : (asked : Asked) (call : SbiEnd) (done : HasDone p q section asked call) → IsAsked (layout_of p) c asked → IsMade call → Ends u a l (Called (own_executed (did_call p q section asked call done) o) q b (regime c) u a)
+  call_told (Asked.Gives error value) call done is made = told (Asked.Gives error value) call done is tt
+  call_told (Asked.GivesOne error) call done is made = told (Asked.GivesOne error) call done is tt
+  call_told (Asked.Sends mask) call done is made = told (Asked.Sends mask) call done is tt
+  call_told (Asked.Fences harts span) call done is made = unnamed harts span call done is made
+  call_told (Asked.Starts target at opaque) call done is made =
       ⊎_elim (λ (own : target ≡ p.own.actor). own_starts_served p q b c section target at opaque call done runner is own o runs wants u a l idles) (λ ne. told (Asked.Starts target at opaque) call done is ne) (cases_eq target p.own.actor)
-  call_told (Asked.TellsState target) call done is made known = told (Asked.TellsState target) call done is tt
-  call_told Asked.Leaves call done is made known = told Asked.Leaves call done is tt
-  call_told (Asked.Ends reason) call done is made known = told (Asked.Ends reason) call done is tt
-  call_told (Asked.Prints from count) call done is made known =
-      ⊎_elim (λ (none : count ≡ 0). told (Asked.Prints from count) call done is none) (λ some. written from count call section done is made some (known some)) (cases_eq count 0)
-  call_told (Asked.PrintsByte byte) call done is made known = told (Asked.PrintsByte byte) call done is tt
-  call_told (Asked.PrintsOne byte) call done is made known = told (Asked.PrintsOne byte) call done is tt
+  call_told (Asked.TellsState target) call done is made = told (Asked.TellsState target) call done is tt
+  call_told Asked.Leaves call done is made = told Asked.Leaves call done is tt
+  call_told (Asked.Ends reason) call done is made = told (Asked.Ends reason) call done is tt
+  call_told (Asked.Prints from count) call done is made =
+      ⊎_elim (λ (none : count ≡ 0). told (Asked.Prints from count) call done is none) (λ some. written from count call section done is made some inside) (cases_eq count 0)
+  call_told (Asked.PrintsByte byte) call done is made = told (Asked.PrintsByte byte) call done is tt
+  call_told (Asked.PrintsOne byte) call done is made = told (Asked.PrintsOne byte) call done is tt
 
-  pub call_served : (asked : Asked) (call : SbiEnd) (end : NeedEnd) (done : HasDone p q section asked call) → IsAsked (layout_of p) c asked → end ≡ end_of_call call → IsNoFence end → IsKnownCall p q section asked call done → Ends u a l (IsServedIn others o end q b (regime c) u a)
-  call_served asked call end done is e no_fence known = by call refl
+  pub call_served : (asked : Asked) (call : SbiEnd) (end : NeedEnd) (done : HasDone p q section asked call) → IsAsked (layout_of p) c asked → end ≡ end_of_call call → IsNoFence end → Ends u a l (IsServedIn others o end q b (regime c) u a)
+  call_served asked call end done is e no_fence = by call refl
     where
       executed : IsMade call → Ends u a l (Counted others (own_executed (record (only (answer_of call)) { stops = not (runs_on call) }) o) q b (regime c) u a)
       executed made = subst (λ (d : Own). Ends u a l (Counted others d q b (regime c) u a))
           (executed_by (did_call p q section asked call done) o (answer_of call) (not (runs_on call)) (answer_is p q section asked call done) (stops_is p q section c asked call done is))
-          (settled_by (own_executed (did_call p q section asked call done) o) (call_told asked call done is made known))
+          (settled_by (own_executed (did_call p q section asked call done) o) (call_told asked call done is made))
 
       made_so : (other : SbiEnd) → call ≡ other → IsMade other → Ends u a l (Counted others (own_executed (record (only (answer_of other)) { stops = not (runs_on other) }) o) q b (regime c) u a)
       made_so other same made = subst (λ (z : SbiEnd). Ends u a l (Counted others (own_executed (record (only (answer_of z)) { stops = not (runs_on z) }) o) q b (regime c) u a)) same (executed (subst IsMade (sym same) made))

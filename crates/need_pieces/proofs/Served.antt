@@ -58,30 +58,30 @@ module _ (others : ℕ → Bool) (o : Own) (p q : Shown) (b b' : Book) (c : Arch
   by_access end got e same k = as_before end b' same (subst (λ (z : NeedEnd). Ends u a l (IsServedIn others o z q b' (regime c) u a)) (sym e) (accessed got k))
 
 pub needs_served : NeedsAreServed
-needs_served p q b b' c section Need.Nothing end form value can served no_fence later same others o wants u a l may known =
+needs_served p q b b' c section Need.Nothing end form value can served no_fence later same others o wants u a l may =
     as_before others o p q b b' c section later can u a l may.rests end b' same (subst (λ (z : NeedEnd). Ends u a l (IsServedIn others o z q b' (regime c) u a)) (sym served.0)
     (still others o p q b b' c section later can u a l may.rests (ends.Done Answer.Nothing) served.1 (nothing_served others o p b (regime c) c u a l may.rests (there others o p q b b' c section later can u a l may.rests) wants)))
-needs_served p q b b' c section (Need.Trap cause tval) end form value can served no_fence later same others o wants u a l may known =
+needs_served p q b b' c section (Need.Trap cause tval) end form value can served no_fence later same others o wants u a l may =
     as_before others o p q b b' c section later can u a l may.rests end b' same (subst (λ (z : NeedEnd). Ends u a l (IsServedIn others o z q b' (regime c) u a)) (sym served.0)
     (still others o p q b b' c section later can u a l may.rests (ends.Done (Answer.Fault cause tval)) served.1 (trap_served others o p b (regime c) c cause tval u a l may.rests (there others o p q b b' c section later can u a l may.rests) wants)))
-needs_served p q b b' c section (Need.Ipi op) end form value can served no_fence later same others o wants u a l may known =
+needs_served p q b b' c section (Need.Ipi op) end form value can served no_fence later same others o wants u a l may =
     as_before others o p q b b' c section later can u a l may.rests end b' same (subst (λ (z : NeedEnd). Ends u a l (IsServedIn others o z q b' (regime c) u a)) (sym served.2)
     (subst (λ (z : Book). Ends u a l (Counted others (own_executed (only (Answer.Value served.0)) o) q z (regime c) u a)) (sym served.3)
     (pending_served others o p q b (regime c) c op served.0 u a l may.rests (there others o p q b b' c section later can u a l may.rests) wants served.1)))
-needs_served p q b b' c section (Need.Flush what) end form value can served no_fence later after others o wants u a l may known =
+needs_served p q b b' c section (Need.Flush what) end form value can served no_fence later after others o wants u a l may =
     flush_served others o p q b b' c what end later u a l can.access.beside served after wants may.rests may.not_due (there others o p q b b' c section later can u a l may.rests)
-needs_served p q b b' c section Need.Sbi end form value can served no_fence later same others o wants u a l may known =
+needs_served p q b b' c section Need.Sbi end form value can served no_fence later same others o wants u a l may =
     as_before others o p q b b' c section later can u a l may.rests end b' same (subst (λ (z : Book). Ends u a l (IsServedIn others o end q z (regime c) u a)) (sym served.4)
-    (call_served others o p q b c section can.runner can.draws may.runs wants served.2 u a l may.rests served.1.0 served.0 end served.1.2 served.1.1 served.3 no_fence known))
-needs_served p q b b' c section (Need.Load va width sign) end form value can served no_fence later same others o wants u a l may known =
+    (call_served others o p q b c section can.runner can.draws can.told may.runs wants served.2 u a l may.rests served.1.0 served.0 end served.1.2 served.1.1 served.3 no_fence))
+needs_served p q b b' c section (Need.Load va width sign) end form value can served no_fence later same others o wants u a l may =
     by_access others o p q b b' c section later can u a l may.rests end served.0 served.2 same (loads_serve p q b b' c va width sign section served.0 form can.access can.told served.1 others o wants u a l may.rests)
-needs_served p q b b' c section (Need.Store va width v) end form value can served no_fence later same others o wants u a l may known =
+needs_served p q b b' c section (Need.Store va width v) end form value can served no_fence later same others o wants u a l may =
     by_access others o p q b b' c section later can u a l may.rests end served.0 served.2 same (stores_serve p q b b' c va width v section served.0 form value can.access can.told can.draws served.1 others o wants u a l may.rests)
-needs_served p q b b' c section (Need.Amo va op wide v) end form value can served no_fence later same others o wants u a l may known =
+needs_served p q b b' c section (Need.Amo va op wide v) end form value can served no_fence later same others o wants u a l may =
     by_access others o p q b b' c section later can u a l may.rests end served.0 served.2 same (amos_serve p q b b' c va op wide v served.0 value can.access served.1 others o wants u a l may.rests)
-needs_served p q b b' c section (Need.Lr va wide) end form value can served no_fence later same others o wants u a l may known =
+needs_served p q b b' c section (Need.Lr va wide) end form value can served no_fence later same others o wants u a l may =
     by_access others o p q b b' c section later can u a l may.rests end served.0 served.2 same (reserves_serve p q b b' c va wide served.0 can.access served.1 others o wants u a l may.rests)
-needs_served p q b b' c section (Need.Sc va wide v) end form value can served no_fence later same others o wants u a l may known =
+needs_served p q b b' c section (Need.Sc va wide v) end form value can served no_fence later same others o wants u a l may =
     by_access others o p q b b' c section later can u a l may.rests end served.0 served.2 same (conditionals_serve p q b b' c va wide v served.0 can.access served.1 others o wants u a l may.rests)
 
 -- only a call asks for a fence

@@ -21,7 +21,7 @@ use Rattle.need_serving.specs.declared.ends.NeedEnd.{NeedEnd}
 use Rattle.need_serving.specs.declared.ends.NeedEnd.TheVariants as ends
 use Rattle.need_serving.specs.Ends.{MayHaveAfter}
 use Rattle.need_serving.specs.Serving.{HasServed}
-use Rattle.need_pieces.specs.Serving.{IsKnown, IsOfRegister, IsServedIn, MayServe}
+use Rattle.need_pieces.specs.Serving.{IsOfRegister, IsServedIn, MayServe}
 
 -- a hart that may serve what its instruction needs
 pub record CanServe (p : Shown) (b : Book) (section : Bool) : Type 0 where
@@ -39,8 +39,8 @@ IsNoFence end = Unit {0}
 -- a need that was served is in each log that told of the port before
 abbrev pub NeedsAreServed : Type 0
 NeedsAreServed = (p q : Shown) (b b' : Book) (c : Arch) (section : Bool) (need : Need) (end : NeedEnd) → IsWellFormedNeed need → IsOfRegister need → CanServe p b section
-    → (x : HasServed p q b b' c section need end) → IsNoFence end → (later : Regime) → MayHaveAfter need end (regime c) later
-    → (others : ℕ → Bool) (o : Own) → Wants o c need → (u : Setup) (a : ℕ) (l : Log) → MayServe others o p b (regime c) u a l → IsKnown p q b b' c section need end x
+    → HasServed p q b b' c section need end → IsNoFence end → (later : Regime) → MayHaveAfter need end (regime c) later
+    → (others : ℕ → Bool) (o : Own) → Wants o c need → (u : Setup) (a : ℕ) (l : Log) → MayServe others o p b (regime c) u a l
     → Ends u a l (IsServedIn others o end q b' later u a)
 
 -- a fence that was asked for leaves the port and the book as they were

@@ -12,9 +12,8 @@ use Rattle.machine_model.specs.State.{Setup}
 use Rattle.step_laws.specs.Words.{console_places}
 use Rattle.run_laws.proofs.Placed.{Placed, steps, run_of}
 use Rattle.run_laws.proofs.Kept.{whole, part, half, drawn, stored_bytes, unstored}
-use Rattle.turn_pieces.specs.Doing.{first_drawn}
 use Rattle.turn_pieces.specs.Shared.{IsShared}
-use Rattle.turn_pieces.specs.Doing.{HasDone, IsCutShort, IsCalm, IsQuiet, is_begin, last_start}
+use Rattle.turn_pieces.specs.Doing.{HasDone, AreFollowing, HasRoom, IsCutShort, IsCalm, IsQuiet, is_begin, last_start}
 use Rattle.machine_model.specs.ReasonWords.{reason_word as reason_number}
 
 abbrev pub AreQuiet : List Event → Type 0
@@ -55,12 +54,12 @@ pub data Accounts (u : Setup) (a : ℕ) (r : List Placed) (n : ℕ) : Word → W
   draws_more : {answer : ℕ} {es : List Event} → half r ≡ whole → IsInSection u.layout a (steps r) → AreQuiet es → Accounts u a r n Cons Add 1 answer es
   fills_more : {i arg answer : ℕ} {ds : List ℕ} {es : List Event} → half r ≡ whole → IsInSection u.layout a (steps r) → drawn r ≡ i ∷ ds → 256 ≤ arg
       → suc (length (stored_bytes r)) ≡ length (drawn r) → unstored r ≡ None → AreQuiet es → Accounts u a r n (Console i) Store arg answer es
-  fills_last : {i arg answer first : ℕ} {ds : List ℕ} {e : Event} {es : List Event} → half r ≡ whole → IsInSection u.layout a (steps r) → drawn r ≡ i ∷ ds → 256 ≤ arg → unstored r ≡ None
-      → first_drawn (drawn r) ≡ Some first → first + length (drawn r) ≤ console_places → suc (length (stored_bytes r)) ≡ length (drawn r)
+  fills_last : {i arg answer : ℕ} {ds : List ℕ} {e : Event} {es : List Event} → half r ≡ whole → IsInSection u.layout a (steps r) → drawn r ≡ i ∷ ds → 256 ≤ arg → unstored r ≡ None
+      → (AreFollowing (drawn r) → HasRoom (drawn r)) → suc (length (stored_bytes r)) ≡ length (drawn r)
       → HasDone e None (stored_bytes r ++ (arg - 256) ∷ []) None None false → is_begin e ≡ false → AreQuiet es → Accounts u a r n (Console i) Store arg answer (e ∷ es)
   -- a reason is given
   ends : {reason : Reason} {answer : ℕ} {e : Event} {es : List Event} (bytes : List ℕ) → half r ≡ whole
-      → HasDone e None bytes (Some reason) None false → bytes ≡ stored_bytes r → IsCutShort (drawn r) bytes → is_begin e ≡ false → AreQuiet es
+      → HasDone e None bytes (Some reason) None false → bytes ≡ stored_bytes r → (AreFollowing (drawn r) → IsCutShort (drawn r) bytes) → is_begin e ≡ false → AreQuiet es
       → Accounts u a r n Stop (Exchange 0) (reason_number reason) answer (e ∷ es)
   -- a hart is taken that is stopped, and given its start
   takes : {t : ℕ} {e : Event} {es : List Event} (at opaque : ℕ) → half r ≡ whole

@@ -62,7 +62,7 @@ quiet_tail {es = es} (fills byte h k g dd q) = tail_of es q
 quiet_tail {es = es} (draws_none h le q) = tail_of es q
 quiet_tail {es = es} (draws_more h k q) = tail_of es q
 quiet_tail {es = es} (fills_more h k p le zz uu q) = tail_of es q
-quiet_tail (fills_last h k p le uu f g z d b q) = q
+quiet_tail (fills_last h k p le uu f z d b q) = q
 quiet_tail (ends bytes h d g f b q) = q
 quiet_tail (takes at opaque h d b q) = q
 quiet_tail {es = es} (gives_start opaque h g q) = tail_of es q

@@ -178,7 +178,7 @@ module _ (boot : List Step) (t : Placed) (ts : List Placed) (ok : Bounded boot t
               ∙ (ap (λ v. may_draw (steps (mine t.step.actor ts)) && v) k ∙ and_false (may_draw (steps (mine t.step.actor ts))))))
 
 module _ (u : Setup) (boot : List Step) (runs : ℕ → Bool) (begun : IsBegun u boot) where
-  bounded : (ts : List Placed) → IsHistory u.layout runs (history boot ts) → Told u ts → Bounded boot ts
+  pub bounded : (ts : List Placed) → IsHistory u.layout runs (history boot ts) → Told u ts → Bounded boot ts
   bounded [] h d = record {
     told = λ a e. cc (e);
     free = λ a e. refl;

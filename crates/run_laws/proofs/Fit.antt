@@ -25,17 +25,17 @@ use Rattle.run_laws.proofs.Placed.{Placed, steps, run_of, Stood}
 use Rattle.walk_laws.specs.WalkLoads.{Found, found}
 use Rattle.run_laws.proofs.Shown.{IsShown, ShownFor, ShownMade}
 use Rattle.walk_laws.specs.WalkLoads.{reads_of}
-use Rattle.run_laws.proofs.Kept.{part_at, handed_word, flushed_waiting}
+use Rattle.run_laws.proofs.Kept.{part_at, drawn, handed_word, flushed_waiting}
 use Rattle.turn_pieces.specs.Folds.{script_of, was_last}
 use Rattle.run_laws.proofs.Fits.{Sees, AskedFor, FencesShown, FitsFetch, FitsExec, FitsGiveUp, FitsInterrupt, FitsStart, FitsStop, FitsAwait, Fits}
 use Rattle.turn_pieces.specs.Right.{FetchedAt}
 use Rattle.turn_pieces.specs.Log.{Log, steps_of, events_of, before, AtLast, HasStood}
 use Rattle.run_laws.proofs.Placed.{placed_of}
-use Rattle.turn_pieces.specs.Kept.{own_part}
+use Rattle.turn_pieces.specs.Kept.{own_part, places}
 use Rattle.turn_pieces.specs.Requests.{HasAsked}
 use Rattle.turn_pieces.specs.Right.{IsSeen, SeenFor, SeenMade, HeldHere, MayBe, AreFenced, IsFetch, IsExec, IsGiveUp, IsCalled, IsInterrupt, IsOwnStart, IsStart, IsStop, IsCount, IsAwait, IsFit}
 use Rattle.run_laws.proofs.Same.{same_steps, same_before, AtTop, same_top, same_stood, same_held, same_drawn, same_handed, same_flushed, same_asked}
-use Rattle.turn_pieces.specs.Doing.{first_drawn}
+use Rattle.turn_pieces.specs.Doing.{AreFollowing, first_drawn}
 
 all_map : {A : Type 0} (P Q : A → Type 0) (xs : List A) → ((x : A) → P x → Q x) → AllByRecursion P xs → AllByRecursion Q xs
 all_map P Q [] f k = tt
@@ -88,11 +88,15 @@ module _ (u : Setup) (a : ℕ) (l : Log) (t : Placed) (r : List Placed) (is : pl
     here = to_last (HeldHere u w) (x.here, x.modes);
     section = λ k y v s e. x.section (subst (λ h. Rattle.step_laws.specs.Sections.IsInSection u.layout a h) (sym steps_are) k) y v s (ap (λ q. Rattle.run_laws.proofs.Kept.held_at y q) (sym is) ∙ (same_held y l ∙ e));
     started = λ lt e. x.started lt (ap (λ (o : Own). o.runs) (sym part_is) ∙ e);
-    room = λ i e. x.room i (ap Rattle.turn_pieces.specs.Doing.first_drawn (ap Rattle.run_laws.proofs.Kept.drawn (sym is) ∙ same_drawn l) ∙ e);
+    follow = subst AreFollowing drawn_is x.follow;
+    room = λ i e. x.room i (ap first_drawn drawn_is ∙ e);
   }
     where
       steps_are : steps p ≡ steps_of l
       steps_are = ap steps (sym is) ∙ same_steps l
+
+      drawn_is : drawn p ≡ places l
+      drawn_is = ap drawn (sym is) ∙ same_drawn l
 
   fenced : (f : Option Flushing) → AreFenced a l f → FencesShown a p f
   fenced None x = tt

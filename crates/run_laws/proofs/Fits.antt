@@ -26,7 +26,7 @@ use Rattle.walk_laws.specs.WalkLoads.{found}
 use Rattle.run_laws.proofs.Shown.{IsShown, ShownFor, ShownMade}
 use Rattle.run_laws.proofs.Kept.{part_at, held_at, drawn, handed_word, flushed_waiting}
 use Rattle.turn_pieces.specs.Folds.{script_of, was_last}
-use Rattle.turn_pieces.specs.Doing.{first_drawn}
+use Rattle.turn_pieces.specs.Doing.{AreFollowing, first_drawn}
 use Rattle.machine_model.specs.declared.mode.Mode.TheVariants.{Started}
 use Rattle.turn_pieces.specs.Right.{FetchedAt}
 use Rattle.turn_pieces.specs.Shared.{IsShared, mode_named}
@@ -43,7 +43,9 @@ pub record Sees (u : Setup) (a : ℕ) (s : Step) (p : List Placed) (w : Surround
   pub here : IsShared (name_of s.word) → s.op ≢ Store → w.memory s.word ≡ s.answer
   -- in section the words hold what was loaded
   pub section : IsInSection u.layout a (steps p) → (x v : ℕ) → IsShared (name_of x) → held_at x p ≡ Some v → w.memory x ≡ v
-  -- from the first place that was drawn for the event on, all are free
+  -- the places drawn for the event follow one another
+  pub follow : AreFollowing (drawn p)
+  -- and from the first on all are free
   pub room : (i : ℕ) → first_drawn (drawn p) ≡ Some i → w.room ≡ console_places - i
   -- a hart's state is what the step answered
   pub modes : (t : ℕ) → t < u.layout.harts → name_of s.word ≡ Hsm t → s.op ≢ Store → w.modes t ≡ mode_named s.answer

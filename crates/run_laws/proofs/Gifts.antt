@@ -137,7 +137,7 @@ gives_of runs m (fills {es = es} byte h k g dd q) = keeps (λ s. absurd s) refl 
 gives_of runs m (draws_none {es = es} h le q) = keeps (λ s. absurd s) refl (quiet_starts es q)
 gives_of runs m (draws_more {es = es} h k q) = keeps (λ s. absurd s) refl (quiet_starts es q)
 gives_of runs m (fills_more {es = es} h k p le zz uu q) = keeps (λ s. absurd s) refl (quiet_starts es q)
-gives_of runs m (fills_last {es = es} h k p le uu f g z d b q) = keeps (λ s. absurd s) refl (d.starts_is, quiet_starts es q)
+gives_of runs m (fills_last {es = es} h k p le uu f z d b q) = keeps (λ s. absurd s) refl (d.starts_is, quiet_starts es q)
 gives_of runs m (ends {es = es} bytes h d g f b q) = keeps (λ s. absurd s) refl (d.starts_is, quiet_starts es q)
 gives_of runs m (takes {t = t} {es = es} at opaque h d b q) = opens t at opaque refl refl refl refl d.starts_is (quiet_starts es q)
 gives_of {u} {a} {r} {n} {w} {op} {arg} {answer} runs m (gives_start {t = t} {es = es} opaque h g q) = first t opaque refl refl g (may_first u.layout a runs (steps r) w op arg t m refl refl) (quiet_starts es q)

@@ -46,7 +46,7 @@ use Rattle.run_laws.proofs.States.{harts_there, gift, modes_quiet}
 use Rattle.run_laws.proofs.Modes.{mode_answered, modes_of, actor_of_step}
 use Rattle.run_laws.proofs.Gifts.{quiet_starts, gifts_none, gift_at, value_of}
 use Rattle.run_laws.proofs.Waits.{waiting_of, two_of, passes_none}
-use Rattle.run_laws.proofs.Output.{room_of, await_of}
+use Rattle.run_laws.proofs.Output.{follow_now, room_of, await_of}
 use Rattle.run_laws.proofs.Weave.{mine_here, behind}
 use Rattle.run_laws.proofs.Pieces.{Told}
 use Rattle.run_laws.proofs.Shared.{quiet_entry}
@@ -107,6 +107,7 @@ module _ (u : Setup) (boot : List Step) (runs : ℕ → Bool) (begun : IsBegun u
       words = λ x. subst (λ y. y < 2 ^ 64) (sym (mem_here x)) (mem_small u boot runs begun ts tail d.1 x);
       here = λ s o. mem_here t.step.word ∙ answered_now u boot runs begun t ts h d s o;
       section = λ i x v s k. mem_here x ∙ (held_here u boot runs begun t ts h d ne (held_of u boot runs begun ts tail d.1) es (quiet_entry es q) i.0 x v s k).1;
+      follow = follow_now u boot runs begun t ts h d es q;
       room = λ i k. room_of u boot runs begun t ts h d ne es q i k;
       modes = λ k lt n o. mode_answered u boot runs begun ran t ts h d es q k lt n o;
       started = λ lt e. started_of (hart (state_of u run) c).mode (ap (λ (o : Own). o.runs) (sym (part_here lt)) ∙ e);

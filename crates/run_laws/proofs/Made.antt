@@ -128,7 +128,7 @@ module _ (u : Setup) (a : ℕ) (r : List Placed) (n : ℕ) where
   byte_fresh s i arg answer h (inr k) = subst (λ b. Fresh s (Console i) Store arg answer (owes_byte b)) (sym k.none) (record {
     half_is = h;
     head = record {
-      by_event = λ e x. fills_last {first = x.first} h k.inside k.drawn k.is_byte k.none x.first_is x.fits k.count
+      by_event = λ e x. fills_last h k.inside k.drawn k.is_byte k.none x.fits k.count
           (subst (λ ds. HasDone e None (stored_next (Console i) Store arg ds (stored_bytes r)) None None false) k.drawn x.pays.does) x.pays.begins_not tt;
       by_none = λ x. fills_more h k.inside k.drawn k.is_byte k.count k.none tt;
       byte_is = λ bs. refl;
@@ -157,7 +157,7 @@ module _ (u : Setup) (a : ℕ) (r : List Placed) (n : ℕ) where
     half_is = h;
     head = record {
       by_event = λ e x. subst (λ m. Accounts u a r n Stop (Exchange 0) m answer (e ∷ [])) (sym x.is)
-          (ends (stored_bytes r) h (subst (λ bs. HasDone e None bs (Some x.reason) None false) bytes_are x.pays.does) refl (subst (IsCutShort (drawn r)) bytes_are x.fills_it) x.pays.begins_not tt);
+          (ends (stored_bytes r) h (subst (λ bs. HasDone e None bs (Some x.reason) None false) bytes_are x.pays.does) refl (λ y. subst (IsCutShort (drawn r)) bytes_are (x.fills_it y)) x.pays.begins_not tt);
       by_none = λ x. absurd x;
       byte_is = λ bs. refl;
     };

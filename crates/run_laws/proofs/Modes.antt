@@ -68,7 +68,7 @@ turns_of (fills byte h k g dd q) = keeps (λ s. absurd s) q
 turns_of (draws_none h le q) = keeps (λ s. absurd s) q
 turns_of (draws_more h k q) = keeps (λ s. absurd s) q
 turns_of (fills_more h k p le zz uu q) = keeps (λ s. absurd s) q
-turns_of (fills_last h k p le uu f g z d b q) = moves (λ s. s) d.starts_is d.stops_is b q
+turns_of (fills_last h k p le uu f z d b q) = moves (λ s. s) d.starts_is d.stops_is b q
 turns_of (ends bytes h d g f b q) = moves (λ s. s) d.starts_is d.stops_is b q
 turns_of (takes {t = t} at opaque h d b q) = opens t at opaque refl refl refl refl d.starts_is d.stops_is b q
 turns_of (gives_start opaque h g q) = keeps (λ s. absurd s) q

@@ -14,6 +14,7 @@ use Rattle.step_laws.specs.Histories.{IsHistory}
 use Rattle.run_laws.proofs.Used.{IsGuarded}
 use Rattle.run_laws.proofs.Stepping.{woven, section_law}
 use Rattle.run_laws.proofs.Filling.{cons_few}
+use Rattle.run_laws.proofs.Overflow.{drawn_within}
 use Rattle.step_laws.proofs.Named.{name_number, number_name}
 use Rattle.machine_model.specs.declared.reason.Reason.{Reason}
 use Rattle.machine_model.specs.Event.{Event, did_of}
@@ -25,11 +26,11 @@ use Rattle.machine_model.specs.Run.{state_of}
 use Rattle.run_laws.proofs.Placed.{Placed, placed, steps, run_of, mine}
 use Rattle.turn_pieces.specs.Folds.{are_some, drawn_next}
 use Rattle.run_laws.proofs.Kept.{has_bytes, drawn, stored_bytes}
-use Rattle.turn_pieces.specs.Doing.{first_drawn}
 use Rattle.turn_pieces.specs.Shared.{IsShared}
 use Rattle.run_laws.proofs.Fits.{FitsAwait}
 use Rattle.run_laws.proofs.Accounts.{AreQuiet, IsSectional, Accounts, calm, writes, writes_half, writes_rest, draws, fills, draws_none, draws_more, fills_more, fills_last, ends, takes, gives_start, gives_opaque, lets, begins_here, leaves_here}
-use Rattle.turn_pieces.specs.Doing.{IsCalm, IsCutShort}
+use Rattle.turn_pieces.specs.Doing.{AreFollowing, HasRoom, IsCalm, IsCutShort, first_drawn}
+use Rattle.turn_pieces.proofs.Following.{first_there, newest_at}
 use Rattle.run_laws.proofs.Beginning.{IsBegun, history}
 use Rattle.run_laws.specs.Ended.{IsFilled as Full}
 use Rattle.run_laws.proofs.Weave.{by_mine, mine_here, mine_other}
@@ -58,9 +59,9 @@ data Prints (u : Setup) (a : ℕ) (r : List Placed) (w : Word) (op : WordOp) (ar
   one : {e : Event} {es : List Event} (byte : ℕ) → w ≡ Cons → op ≡ Add → arg ≡ 1 → drawn r ≡ [] → answer < console_places → (did_of e).reason ≡ None → (did_of e).bytes ≡ byte ∷ [] → AreQuiet es
       → Prints u a r w op arg answer (e ∷ es)
   more : {es : List Event} → w ≡ Cons → op ≡ Add → arg ≡ 1 → (console_places ≤ answer) ⊎ IsInSection u.layout a (steps r) → AreQuiet es → Prints u a r w op arg answer es
-  all : {e : Event} {es : List Event} (i first : ℕ) (bytes : List ℕ) → w ≡ Console i → first_drawn (drawn r) ≡ Some first → first + length (drawn r) ≤ console_places
+  all : {e : Event} {es : List Event} (i : ℕ) (bytes : List ℕ) → w ≡ Console i → (AreFollowing (drawn r) → HasRoom (drawn r))
       → (did_of e).reason ≡ None → (did_of e).bytes ≡ bytes → are_some bytes ≡ true → length bytes ≡ length (drawn r) → AreQuiet es → Prints u a r w op arg answer (e ∷ es)
-  full : {e : Event} {es : List Event} (reason : Reason) (bytes : List ℕ) → w ≡ Stop → (did_of e).reason ≡ Some reason → (did_of e).bytes ≡ bytes → IsCutShort (drawn r) bytes → AreQuiet es
+  full : {e : Event} {es : List Event} (reason : Reason) (bytes : List ℕ) → w ≡ Stop → (did_of e).reason ≡ Some reason → (did_of e).bytes ≡ bytes → (AreFollowing (drawn r) → IsCutShort (drawn r) bytes) → AreQuiet es
       → Prints u a r w op arg answer (e ∷ es)
 
 calm_cons : (w : Word) (op : WordOp) (answer : ℕ) → IsCalm w op answer → w ≡ Cons → Still op answer
@@ -90,8 +91,8 @@ prints_of (fills {es = es} byte h k g dd q) = same (λ e. absurd (cc)) (λ s. ab
 prints_of (draws_none h le q) = more refl refl refl (inl le) q
 prints_of (draws_more h k q) = more refl refl refl (inr k) q
 prints_of (fills_more {es = es} h k p le zz uu q) = same (λ e. absurd (cc)) (λ s. absurd s) (quiet_bytes es q)
-prints_of {r = r} (fills_last {i = i} {arg = arg} {first = first} h k p le uu f g z d b q) =
-    all i first (stored_bytes r ++ (arg - 256) ∷ []) refl f g d.reason_is d.bytes_are (some_end (stored_bytes r) (arg - 256))
+prints_of {r = r} (fills_last {i = i} {arg = arg} h k p le uu f z d b q) =
+    all i (stored_bytes r ++ (arg - 256) ∷ []) refl f d.reason_is d.bytes_are (some_end (stored_bytes r) (arg - 256))
     (length-append (stored_bytes r) ((arg - 256) ∷ []) ∙ (let one_more : length (stored_bytes r) + 1 ≡ suc (length (stored_bytes r)) = omega arith in one_more ∙ z)) q
 prints_of (ends {reason = reason} bytes h d g f b q) = full reason bytes refl d.reason_is d.bytes_are f q
 prints_of (takes {es = es} at opaque h d b q) = same (λ e. absurd (cc)) (λ s. absurd s) (d.reason_is, d.bytes_are, quiet_bytes es q)
@@ -141,6 +142,11 @@ pub record Draws (u : Setup) (boot : List Step) (ts : List Placed) (a i : ℕ) :
 pub data Out (u : Setup) (boot : List Step) (ts : List Placed) : Type 0 where
   shut : Full (cons boot ts) (out u ts) → ((a i : ℕ) → first_drawn (drawn (mine a ts)) ≡ Some i → (console_places ≤ i) × (console_places ≤ cons boot ts)) → Out u boot ts
   open_by : (a i : ℕ) → Draws u boot ts a i → Out u boot ts
+
+-- and the places that each actor has drawn follow one another
+record Printed (u : Setup) (boot : List Step) (ts : List Placed) : Type 0 where
+  output : Out u boot ts
+  follow : (a : ℕ) → AreFollowing (drawn (mine a ts))
 
 printed_length : (old bytes : List ℕ) → length (printed old bytes) ≡ length old + length bytes
 printed_length old [] = omega arith
@@ -197,6 +203,37 @@ module _ (u : Setup) (boot : List Step) (runs : ℕ → Bool) (begun : IsBegun u
       | inl e ↦ inl (e, sym (ap (λ l. first_drawn (drawn l)) (ap (λ x. mine x (t ∷ ts)) e ∙ mine_here t ts)) ∙ k)
       | inr away ↦ inr (away, sym (ap (λ l. first_drawn (drawn l)) (mine_other a t ts away)) ∙ k)
     ]
+
+    -- a place that is drawn follows those that the actor has drawn before
+    follow_next : Out u boot ts → AreFollowing (drawn r) → (name_of t.step.word ≡ Cons → t.step.op ≡ Add → (x : ℕ) (ds : List ℕ) → drawn r ≡ x ∷ ds → x < console_places)
+        → AreFollowing (drawn_next (name_of t.step.word) t.step.op t.step.answer (drawn r))
+    follow_next o follow inside = by (name_of t.step.word) t.step.op (drawn r) refl refl refl
+      where
+        behind : name_of t.step.word ≡ Cons → t.step.op ≡ Add → (x : ℕ) (ds : List ℕ) → drawn r ≡ x ∷ ds → Out u boot ts → t.step.answer ≡ suc x
+        behind w p x ds e = place
+          where
+            f : (f : ℕ) × (first_drawn (x ∷ ds) ≡ Some f)
+            f = first_there x ds
+
+            is_first : first_drawn (drawn r) ≡ Some f.0
+            is_first = ap first_drawn e ∙ f.1
+
+            at : x ≡ f.0 + length ds
+            at = newest_at x f.0 ds (subst AreFollowing e follow) f.1
+
+            place : Out u boot ts → t.step.answer ≡ suc x
+            place (shut fl pend) = let le = (pend c f.0 is_first).0 in let lt = inside w p x ds e in absurd (omega (arith, le, lt, at))
+            place (open_by a i k) = elim (cases_eq a c) [
+              | inl g ↦ (let same = some_same i f.0 (first_drawn (drawn r)) (sym (ap (λ y. first_drawn (drawn (mine y ts))) g) ∙ k.first) is_first in
+                  let drew : cons boot ts ≡ i + suc (length ds) = k.drew ∙ ap (λ y. i + length (drawn (mine y ts))) g ∙ ap (λ l. i + length l) e in
+                  let now = cons_answer w (λ z. cc (p, z)) in omega (arith, same, drew, now, at))
+              | inr away ↦ absurd (k.alone c f.0 (λ z. away (sym z)) is_first)
+            ]
+
+        by : (w : Word) (op : WordOp) (ds : List ℕ) → name_of t.step.word ≡ w → t.step.op ≡ op → drawn r ≡ ds → AreFollowing (drawn_next w op t.step.answer ds)
+        by Cons Add [] w p e = tt
+        by Cons Add (x ∷ ds) w p e = (behind w p x ds e o, subst AreFollowing e follow)
+        by w op ds n p e = subst AreFollowing e follow
 
     out_same : NoBytes t.events → out u (t ∷ ts) ≡ out u ts
     out_same q = ap length (bytes_same u t.events (run_of ts) q)
@@ -359,15 +396,16 @@ module _ (u : Setup) (boot : List Step) (runs : ℕ → Bool) (begun : IsBegun u
                   }
 
       -- the last byte of a call is stored, with the event
-      all_step : (e : Event) (es : List Event) (i first : ℕ) (bytes : List ℕ) → t.events ≡ e ∷ es → name_of t.step.word ≡ Console i → first_drawn (drawn r) ≡ Some first → first + length (drawn r) ≤ console_places
+      all_step : (e : Event) (es : List Event) (i : ℕ) (bytes : List ℕ) → t.events ≡ e ∷ es → name_of t.step.word ≡ Console i → HasRoom (drawn r)
           → (did_of e).reason ≡ None → (did_of e).bytes ≡ bytes → are_some bytes ≡ true → length bytes ≡ length (drawn r) → AreQuiet es → Out u boot ts → Out u boot (t ∷ ts)
-      all_step e es i first bytes is w f room n b s len q (shut fl pend) = let p = (pend c first f).0 in let z = first_some (drawn r) first f in absurd (omega (arith, p, room, z))
-      all_step e es i first bytes is w f room n b s len q (open_by a j k) = elim (cases_eq a c) [ inl g ↦ done g | inr away ↦ absurd (lone (subst IsGuarded (sym w) tt) a j k away) ]
+      all_step e es i bytes is w fit n b s len q (shut fl pend) = let p = (pend c fit.first fit.first_is).0 in let z = first_some (drawn r) fit.first fit.first_is in let room = fit.fits in absurd (omega (arith, p, room, z))
+      all_step e es i bytes is w fit n b s len q (open_by a j k) = elim (cases_eq a c) [ inl g ↦ done g | inr away ↦ absurd (lone (subst IsGuarded (sym w) tt) a j k away) ]
         where
           done : a ≡ c → Out u boot (t ∷ ts)
           done g =
               let here : has_bytes t.events ≡ true = has_here e es is n (ap are_some b ∙ s) in
-              let same_first : j ≡ first = some_same j first (first_drawn (drawn r)) (sym (ap (λ x. first_drawn (drawn (mine x ts))) g) ∙ k.first) f in
+              let same_first : j ≡ fit.first = some_same j fit.first (first_drawn (drawn r)) (sym (ap (λ x. first_drawn (drawn (mine x ts))) g) ∙ k.first) fit.first_is in
+              let room = fit.fits in
               let x = cons_same (λ z. absurd (cc (w, z))) in
               let y = out_more e es is q ∙ ap (λ bs. out u ts + length bs) b in
               let v = k.output in
@@ -429,24 +467,54 @@ module _ (u : Setup) (boot : List Step) (runs : ℕ → Bool) (begun : IsBegun u
             | inr away ↦ absurd (d.alone c i (λ z. away (sym z)) k)
           ]
 
-      out_step : (es : List Event) → t.events ≡ es → Prints u c r (name_of t.step.word) t.step.op t.step.arg t.step.answer es → Out u boot ts → Out u boot (t ∷ ts)
-      out_step es is (same f g q) o = same_step f g (subst NoBytes (sym is) q) o
-      out_step es is (one {e = e} {es = es'} byte w op ar none lt n b q) o = one_step e es' byte is w op ar none lt n b q o
-      out_step es is (more w op ar why q) o = more_step w op ar why (subst AreQuiet (sym is) q) o
-      out_step es is (all {e = e} {es = es'} i first bytes w f le n b s len q) o = all_step e es' i first bytes is w f le n b s len q o
-      out_step es is (full {e = e} {es = es'} reason bytes w n b fl q) o = full_step e es' reason bytes is w n b fl q o
+      out_step : AreFollowing (drawn r) → (es : List Event) → t.events ≡ es → Prints u c r (name_of t.step.word) t.step.op t.step.arg t.step.answer es → Out u boot ts → Out u boot (t ∷ ts)
+      out_step follow es is (same f g q) o = same_step f g (subst NoBytes (sym is) q) o
+      out_step follow es is (one {e = e} {es = es'} byte w op ar none lt n b q) o = one_step e es' byte is w op ar none lt n b q o
+      out_step follow es is (more w op ar why q) o = more_step w op ar why (subst AreQuiet (sym is) q) o
+      out_step follow es is (all {e = e} {es = es'} i bytes w f n b s len q) o = all_step e es' i bytes is w (f follow) n b s len q o
+      out_step follow es is (full {e = e} {es = es'} reason bytes w n b fl q) o = full_step e es' reason bytes is w n b (fl follow) q o
 
-  -- the output is as long as CONS says, but for places drawn by the one actor in section
-  pub out_of : (ts : List Placed) → IsHistory u.layout runs (history boot ts) → Told u ts → Out u boot ts
-  out_of [] h d = let e = begun.output in shut (inl (omega (arith, e), sym e)) (λ a i k. absurd (cc (k)))
-  out_of (t ∷ ts) h d = go d.0.who (out_of ts (history_tail u runs t.step (history boot ts) h) d.1)
+  -- the places that an actor has drawn behind the step, where its events print nothing
+  followed : (t : Placed) (ts : List Placed) → IsHistory u.layout runs (history boot (t ∷ ts)) → Told u (t ∷ ts) → Printed u boot ts
+      → AreFollowing (drawn_next (name_of t.step.word) t.step.op t.step.answer (drawn (mine t.step.actor ts)))
+  followed t ts h d ok = follow_next t ts h few ok.output (ok.follow t.step.actor) (drawn_within u boot runs begun t ts h d)
+    where
+      few : cons boot ts < 2 ^ 63
+      few = cons_few u boot runs begun ts (history_tail u runs t.step (history boot ts) h) d.1
+
+  printed_next : (t : Placed) (ts : List Placed) → IsHistory u.layout runs (history boot (t ∷ ts)) → Told u (t ∷ ts) → Printed u boot ts → Printed u boot (t ∷ ts)
+  printed_next t ts h d old = record {
+    output = go d.0.who old.output;
+    follow = λ a. by_mine (λ x l. AreFollowing (drawn l)) a t ts (mine_follow (has_bytes t.events)) (λ _. old.follow a);
+  }
     where
       few : cons boot ts < 2 ^ 63
       few = cons_few u boot runs begun ts (history_tail u runs t.step (history boot ts) h) d.1
 
       go : (t.step.actor ≢ loader) ⊎ IsIdleStep t → Out u boot ts → Out u boot (t ∷ ts)
-      go (inl ne) o = out_step t ts h few ne t.events refl (prints_of d.0.right.accounts) o
+      go (inl ne) o = out_step t ts h few ne (old.follow t.step.actor) t.events refl (prints_of d.0.right.accounts) o
       go (inr i) o = same_step t ts h few (λ z. absurd (cc (i.0, z))) (λ s. absurd (subst IsSectional i.0 s)) (subst NoBytes (sym i.2) tt) o
+
+      mine_follow : (v : Bool) → AreFollowing (if v then [] else drawn_next (name_of t.step.word) t.step.op t.step.answer (drawn (mine t.step.actor ts)))
+      mine_follow true = tt
+      mine_follow false = followed t ts h d old
+
+  printed_of : (ts : List Placed) → IsHistory u.layout runs (history boot ts) → Told u ts → Printed u boot ts
+  printed_of [] h d = let e = begun.output in record { output = shut (inl (omega (arith, e), sym e)) (λ a i k. absurd (cc (k))); follow = λ a. tt }
+  printed_of (t ∷ ts) h d = printed_next t ts h d (printed_of ts (history_tail u runs t.step (history boot ts) h) d.1)
+
+  -- the output is as long as CONS says, but for places drawn by the one actor in section
+  pub out_of : (ts : List Placed) → IsHistory u.layout runs (history boot ts) → Told u ts → Out u boot ts
+  out_of ts h d = (printed_of ts h d).output
+
+  -- the places that an actor has drawn for an event that isn't placed yet follow one another
+  pub follow_of : (ts : List Placed) → IsHistory u.layout runs (history boot ts) → Told u ts → (a : ℕ) → AreFollowing (drawn (mine a ts))
+  follow_of ts h d a = (printed_of ts h d).follow a
+
+  -- so those that a step's events see
+  pub follow_now : (t : Placed) (ts : List Placed) → IsHistory u.layout runs (history boot (t ∷ ts)) → Told u (t ∷ ts) → (es : List Event) → AreQuiet es → AreFollowing (drawn (placed t.step es ∷ mine t.step.actor ts))
+  follow_now t ts h d es q = subst (λ (b : Bool). AreFollowing (if b then [] else drawn_next (name_of t.step.word) t.step.op t.step.answer (drawn (mine t.step.actor ts)))) (sym (no_bytes es (quiet_bytes es q)))
+      (followed t ts h d (printed_of ts (history_tail u runs t.step (history boot ts) h) d.1))
 
   -- the room that a step's events see
   pub room_of : (t : Placed) (ts : List Placed) → IsHistory u.layout runs (history boot (t ∷ ts)) → Told u (t ∷ ts) → t.step.actor ≢ loader → (es : List Event) → AreQuiet es

@@ -21,10 +21,10 @@ use Rattle.machine_model.specs.Run.{state_of}
 use Rattle.run_laws.proofs.Placed.{Placed, run_of, mine}
 use Rattle.turn_pieces.specs.Folds.{are_some, stored_next, Unstored, unstored_next}
 use Rattle.run_laws.proofs.Kept.{has_bytes, drawn, stored_bytes, unstored, bytes_of}
-use Rattle.turn_pieces.specs.Doing.{first_drawn}
 use Rattle.turn_pieces.specs.Shared.{IsShared}
 use Rattle.run_laws.proofs.Accounts.{AreQuiet, Accounts, calm, writes, writes_half, writes_rest, draws, fills, draws_none, draws_more, fills_more, fills_last, ends, takes, gives_start, gives_opaque, lets, begins_here, leaves_here}
-use Rattle.turn_pieces.specs.Doing.{IsCalm, IsCutShort}
+use Rattle.turn_pieces.specs.Doing.{AreFollowing, IsCalm, IsCutShort, first_drawn}
+use Rattle.turn_pieces.proofs.Following.{first_there, newest_at}
 use Rattle.run_laws.proofs.Pieces.{Told, IsIdleStep}
 use Rattle.run_laws.proofs.Beginning.{IsBegun, history}
 use Rattle.run_laws.specs.Ended.{byte_at as byte}
@@ -32,7 +32,7 @@ use Rattle.run_laws.proofs.Weave.{by_mine, mine_here, mine_other}
 use Rattle.run_laws.proofs.States.{output_quiet}
 use Rattle.run_laws.proofs.Shared.{Still, value_still, value_other}
 use Rattle.run_laws.proofs.Agree.{history_tail}
-use Rattle.run_laws.proofs.Output.{NoBytes, Out, shut, open_by, out, cons, out_of, quiet_bytes, no_bytes, drawn_same, drawn_more, drawn_none, bytes_same, no_first, some_same, cons_answer, lone}
+use Rattle.run_laws.proofs.Output.{NoBytes, Out, shut, open_by, out, cons, out_of, follow_of, quiet_bytes, no_bytes, drawn_same, drawn_more, drawn_none, bytes_same, no_first, some_same, cons_answer, lone}
 use Rattle.run_laws.proofs.Filling.{cons_few}
 
 -- texts
@@ -85,7 +85,7 @@ pub data Stores (r : List Placed) (w : Word) (op : WordOp) (arg answer : ℕ) : 
       → Stores r w op arg answer es
   fill_last : {e : Event} {es : List Event} (i : ℕ) (ds : List ℕ) → w ≡ Console i → op ≡ Store → drawn r ≡ i ∷ ds → 256 ≤ arg → suc (length (stored_bytes r)) ≡ length (drawn r) → unstored r ≡ None
       → (did_of e).reason ≡ None → (did_of e).bytes ≡ stored_bytes r ++ (arg - 256) ∷ [] → AreQuiet es → Stores r w op arg answer (e ∷ es)
-  full : {e : Event} {es : List Event} (reason : Reason) → w ≡ Stop → (did_of e).reason ≡ Some reason → (did_of e).bytes ≡ stored_bytes r → IsCutShort (drawn r) (stored_bytes r) → AreQuiet es
+  full : {e : Event} {es : List Event} (reason : Reason) → w ≡ Stop → (did_of e).reason ≡ Some reason → (did_of e).bytes ≡ stored_bytes r → (AreFollowing (drawn r) → IsCutShort (drawn r) (stored_bytes r)) → AreQuiet es
       → Stores r w op arg answer (e ∷ es)
 
 calm_place : (w : Word) (op : WordOp) (answer : ℕ) → IsCalm w op answer → IsPlace w → Still op answer
@@ -115,8 +115,8 @@ stores_of (fills {i = i} byte h k g dd q) = fill_own i byte refl refl k g dd q
 stores_of (draws_none h le q) = draw_more refl refl q
 stores_of (draws_more h k q) = draw_more refl refl q
 stores_of (fills_more {i = i} {ds = ds} h k p le zz uu q) = fill_more i ds refl refl p le zz uu q
-stores_of (fills_last {i = i} {ds = ds} h k p le uu f g z d b q) = fill_last i ds refl refl p le z uu d.reason_is d.bytes_are q
-stores_of {r = r} (ends {reason = reason} bytes h d g f b q) = full reason refl d.reason_is (d.bytes_are ∙ g) (subst (IsCutShort (drawn r)) g f) q
+stores_of (fills_last {i = i} {ds = ds} h k p le uu f z d b q) = fill_last i ds refl refl p le z uu d.reason_is d.bytes_are q
+stores_of {r = r} (ends {reason = reason} bytes h d g f b q) = full reason refl d.reason_is (d.bytes_are ∙ g) (λ y. subst (IsCutShort (drawn r)) g (f y)) q
 stores_of (takes {es = es} at opaque h d b q) = idle (λ s. absurd s) (λ e. absurd (cc (e))) (d.reason_is, d.bytes_are, quiet_bytes es q)
 stores_of (gives_start {es = es} opaque h g q) = idle (λ s. absurd s) (λ e. absurd (cc (e))) (quiet_bytes es q)
 stores_of (gives_opaque {es = es} at h g q) = idle (λ s. absurd s) (λ e. absurd (cc (e))) (quiet_bytes es q)
@@ -152,7 +152,6 @@ pub record Placing (u : Setup) (boot : List Step) (ts : List Placed) : Type 0 wh
   pub owed : (a i b : ℕ) → unstored (mine a ts) ≡ owes i b → byte (text_of u ts) i ≡ Some b
   pub kept : (a f : ℕ) → first_drawn (drawn (mine a ts)) ≡ Some f → f < console_places → (j b : ℕ) → byte (stored_bytes (mine a ts)) j ≡ Some b
       → (f + j < console_places) × (place boot ts (f + j) ≡ b + 256)
-  pub newest : (a f d : ℕ) (ds : List ℕ) → first_drawn (drawn (mine a ts)) ≡ Some f → drawn (mine a ts) ≡ d ∷ ds → (f < console_places → d ≡ f + length ds) × (console_places ≤ f → console_places ≤ d)
 
 some_first : (ds : List ℕ) (f : ℕ) → first_drawn ds ≡ Some f → (d : ℕ) × (rest : List ℕ) × (ds ≡ d ∷ rest)
 some_first [] f e = absurd (cc (e))
@@ -174,7 +173,7 @@ owed_same i b j c o e f = (ap at_of (sym e ∙ f), ap byte_of (sym e ∙ f))
     byte_of (Some k) = k.byte
 
 module _ (u : Setup) (boot : List Step) (runs : ℕ → Bool) (begun : IsBegun u boot) where
-  module _ (t : Placed) (ts : List Placed) (h : IsHistory u.layout runs (history boot (t ∷ ts))) (d : Told u (t ∷ ts)) (ok : Placing u boot ts) (o : Out u boot ts) where
+  module _ (t : Placed) (ts : List Placed) (h : IsHistory u.layout runs (history boot (t ∷ ts))) (d : Told u (t ∷ ts)) (ok : Placing u boot ts) (o : Out u boot ts) (follow : AreFollowing (drawn (mine t.step.actor ts))) where
     abbrev c : ℕ
     c = t.step.actor
 
@@ -227,9 +226,6 @@ module _ (u : Setup) (boot : List Step) (runs : ℕ → Bool) (begun : IsBegun u
           (λ e lt j b z. let e' = sym (ap first_drawn drawn_is) ∙ e in let s = some_first (drawn r) k e' in
           let i = ok.kept c k e' lt j b (sym (ap (λ l. byte l j) (stored_rest s.0 s.1 (no_bytes t.events q) s.2 f)) ∙ z) in (i.0, no_place f (k + j) i.0 ∙ i.1))
           (λ away e lt j b z. let i = ok.kept a k e lt j b z in (i.0, no_place f (k + j) i.0 ∙ i.1));
-      newest = λ a k x ds. by_mine (λ y l. first_drawn (drawn l) ≡ Some k → drawn l ≡ x ∷ ds → (k < console_places → x ≡ k + length ds) × (console_places ≤ k → console_places ≤ x)) a t ts
-          (λ e z. ok.newest c k x ds (sym (ap first_drawn drawn_is) ∙ e) (sym drawn_is ∙ z))
-          (λ away e z. ok.newest a k x ds e z);
     }
       where
         text_is : text_of u (t ∷ ts) ≡ text_of u ts
@@ -261,10 +257,6 @@ module _ (u : Setup) (boot : List Step) (runs : ℕ → Bool) (begun : IsBegun u
     kept_others e s a f k lt j b z = let m = none_mine e a f k in
         let k' = sym (ap (λ l. first_drawn (drawn l)) m.1) ∙ k in
         let i = ok.kept a f k' lt j b (sym (ap (λ l. byte (stored_bytes l) j) m.1) ∙ z) in (i.0, s a f m.0 k' lt j i.0 ∙ i.1)
-
-    newest_others : drawn (t ∷ r) ≡ [] → (a f x : ℕ) (ds : List ℕ) → first_drawn (drawn (mine a (t ∷ ts))) ≡ Some f → drawn (mine a (t ∷ ts)) ≡ x ∷ ds
-        → (f < console_places → x ≡ f + length ds) × (console_places ≤ f → console_places ≤ x)
-    newest_others e a f x ds k z = let m = none_mine e a f k in ok.newest a f x ds (sym (ap (λ l. first_drawn (drawn l)) m.1) ∙ k) (sym (ap drawn m.1) ∙ z)
 
     -- who has drawn a place that there is, is the one actor in section
     only : (a f : ℕ) → first_drawn (drawn (mine a ts)) ≡ Some f → f < console_places → (out u ts ≡ f) × (cons boot ts ≡ f + length (drawn (mine a ts))) × ((b j : ℕ) → b ≢ a → first_drawn (drawn (mine b ts)) ≡ Some j → ⊥)
@@ -299,7 +291,6 @@ module _ (u : Setup) (boot : List Step) (runs : ℕ → Bool) (begun : IsBegun u
             ap (λ l. byte l i) more ∙ (ap (byte (text_of u ts ++ b ∷ [])) (sym s.0 ∙ is_out) ∙ (byte_end (text_of u ts) b ∙ ap Some s.1)))
             (λ away y. ap (λ l. byte l i) more ∙ printed_low (text_of u ts) (b ∷ []) i b' (ok.owed a i b' y));
         kept = kept_others gone (λ a f away k l j m. stays (f + j) m);
-        newest = newest_others gone;
       }
         where
           more : text_of u (t ∷ ts) ≡ printed (text_of u ts) (b ∷ [])
@@ -341,9 +332,6 @@ module _ (u : Setup) (boot : List Step) (runs : ℕ → Bool) (begun : IsBegun u
         kept = λ a k. by_mine (λ x l. first_drawn (drawn l) ≡ Some k → k < console_places → (j b : ℕ) → byte (stored_bytes l) j ≡ Some b → (k + j < console_places) × (place boot (t ∷ ts) (k + j) ≡ b + 256)) a t ts
             (λ e lt j b z. mine_kept (drawn r) refl k (sym (ap first_drawn drawn_is) ∙ e) lt j b z)
             (λ away e lt j b z. let i = ok.kept a k e lt j b z in (i.0, stays (k + j) i.0 ∙ i.1));
-        newest = λ a k x ds. by_mine (λ y l. first_drawn (drawn l) ≡ Some k → drawn l ≡ x ∷ ds → (k < console_places → x ≡ k + length ds) × (console_places ≤ k → console_places ≤ x)) a t ts
-            (λ e z. mine_newest (drawn r) refl k x ds (sym (ap first_drawn drawn_is) ∙ e) (sym drawn_is ∙ z))
-            (λ away e z. ok.newest a k x ds e z);
       }
         where
           text_is : text_of u (t ∷ ts) ≡ text_of u ts
@@ -369,34 +357,6 @@ module _ (u : Setup) (boot : List Step) (runs : ℕ → Bool) (begun : IsBegun u
           mine_kept [] e k f lt j b z = absurd (cc (ap (λ l. byte l j) (stored_none e), z))
           mine_kept (x ∷ ds) e k f lt j b z = let i = ok.kept c k (ap first_drawn e ∙ (sym (ap (λ l. first_drawn (t.step.answer ∷ l)) e) ∙ f)) lt j b (sym (ap (λ l. byte l j) (stored_is x ds e)) ∙ z) in (i.0, stays (k + j) i.0 ∙ i.1)
 
-          is_cons : t.step.answer ≡ cons boot ts
-          is_cons = cons_answer u boot runs begun t ts h low_cons w (λ z. cc (p, z))
-
-          head_is : (x y : ℕ) (ds es : List ℕ) → x ∷ ds ≡ y ∷ es → (x ≡ y) × (ds ≡ es)
-          head_is x y ds es e = (cc (e), cc (e))
-
-          mine_newest : (l : List ℕ) → drawn r ≡ l → (k x : ℕ) (ds : List ℕ) → first_drawn (t.step.answer ∷ drawn r) ≡ Some k → t.step.answer ∷ drawn r ≡ x ∷ ds → (k < console_places → x ≡ k + length ds) × (console_places ≤ k → console_places ≤ x)
-          mine_newest [] e k x ds f z =
-              let s = head_is t.step.answer x (drawn r) ds z in
-              let v : t.step.answer ≡ k = some_inj t.step.answer k (first_drawn (t.step.answer ∷ drawn r)) (ap (λ l. first_drawn (t.step.answer ∷ l)) e) f in
-              let y : length ds ≡ 0 = ap length (sym s.1 ∙ e) in let s0 = s.0 in
-              (λ lt. omega (arith, v, y, s0), λ le. omega (arith, v, s0, le))
-          mine_newest (m ∷ l) e k x ds f z =
-              let s = head_is t.step.answer x (drawn r) ds z in
-              let old : first_drawn (drawn r) ≡ Some k = ap first_drawn e ∙ (sym (ap (λ v. first_drawn (t.step.answer ∷ v)) e) ∙ f) in
-              let s0 = s.0 in let len : length (drawn r) ≡ length ds = ap length s.1 in
-              (λ lt. let y = (only c k old lt).1 in omega (arith, s0, is_cons, y, len), λ le. let y = full_cons k old le in omega (arith, s0, is_cons, y))
-            where
-              full_cons : (k : ℕ) → first_drawn (drawn r) ≡ Some k → console_places ≤ k → console_places ≤ cons boot ts
-              full_cons k old le = by o
-                where
-                  by : Out u boot ts → console_places ≤ cons boot ts
-                  by (shut fl pend) = (pend c k old).1
-                  by (open_by a i l) = elim (cases_eq a c) [
-                    | inl g ↦ let same = some_same i k (first_drawn (drawn r)) (sym (ap (λ x. first_drawn (drawn (mine x ts))) g) ∙ l.first) old in let fr = l.free in absurd (omega (arith, same, fr, le))
-                    | inr away ↦ absurd (l.alone c k (λ z. away (sym z)) old)
-                  ]
-
       -- the byte whose event is placed
       own_step : (i b : ℕ) → name_of t.step.word ≡ Console i → t.step.op ≡ Store → unstored r ≡ owes i b → t.step.arg ≡ b + 256 → drawn r ≡ [] → AreQuiet t.events → Placing u boot (t ∷ ts)
       own_step i b w p un ar none q = record {
@@ -409,7 +369,6 @@ module _ (u : Setup) (boot : List Step) (runs : ℕ → Bool) (begun : IsBegun u
         ];
         owed = λ a i' b'. by_mine (λ x l. unstored l ≡ owes i' b' → byte (text_of u (t ∷ ts)) i' ≡ Some b') a t ts (λ y. absurd (cc (sym now_none ∙ y))) (λ away y. ap (λ l. byte l i') text_is ∙ ok.owed a i' b' y);
         kept = kept_others gone (λ a f away k lt j m. stays (f + j) m (λ z. let x = (only a f k lt).0 in let y = byte_lt (text_of u ts) i b mine_byte in omega (arith, x, y, z)));
-        newest = newest_others gone;
       }
         where
           text_is : text_of u (t ∷ ts) ≡ text_of u ts
@@ -433,20 +392,19 @@ module _ (u : Setup) (boot : List Step) (runs : ℕ → Bool) (begun : IsBegun u
         small = subst IsWord w (word_name t.step.word)
 
         first_at : (f : ℕ) × (first_drawn (drawn r) ≡ Some f)
-        first_at = let k = total i ds in (k.0, ap first_drawn dr ∙ k.1)
-          where
-            total : (x : ℕ) (l : List ℕ) → (f : ℕ) × (first_drawn (x ∷ l) ≡ Some f)
-            total x [] = (x, refl)
-            total x (y ∷ l) = total y l
+        first_at = let k = first_there i ds in (k.0, ap first_drawn dr ∙ k.1)
 
         abbrev g : ℕ
         g = first_at.0
 
+        newest_is : i ≡ g + length ds
+        newest_is = newest_at i g ds (subst AreFollowing dr follow) (sym (ap first_drawn dr) ∙ first_at.1)
+
         free : g < console_places
-        free = elim (cases_lt g console_places) [ inl lt ↦ lt | inr z ↦ (let x = (ok.newest c g i ds first_at.1 dr).1 z in let y = small in absurd (omega (arith, x, y))) ]
+        free = elim (cases_lt g console_places) [ inl lt ↦ lt | inr z ↦ (let x = newest_is in let y = small in absurd (omega (arith, x, y, z))) ]
 
         at_end : i ≡ g + length (stored_bytes r)
-        at_end = let x = (ok.newest c g i ds first_at.1 dr).0 free in let y : suc (length (stored_bytes r)) ≡ suc (length ds) = len ∙ ap length dr in omega (arith, x, y)
+        at_end = let x = newest_is in let y : suc (length (stored_bytes r)) ≡ suc (length ds) = len ∙ ap length dr in omega (arith, x, y)
 
         is_out : out u ts ≡ g
         is_out = (only c g first_at.1 free).0
@@ -482,9 +440,6 @@ module _ (u : Setup) (boot : List Step) (runs : ℕ → Bool) (begun : IsBegun u
               (λ e lt j b z. subst (λ y. (y + j < console_places) × (place boot (t ∷ ts) (y + j) ≡ b + 256)) (some_same g k (first_drawn (drawn r)) first_at.1 (sym (ap first_drawn drawn_is) ∙ e))
               (so_far j b (sym (ap (λ l. byte l j) stored_is) ∙ z)))
               (λ away e lt j b z. absurd (alone a k away e));
-          newest = λ a k x l. by_mine (λ y m. first_drawn (drawn m) ≡ Some k → drawn m ≡ x ∷ l → (k < console_places → x ≡ k + length l) × (console_places ≤ k → console_places ≤ x)) a t ts
-              (λ e z. ok.newest c k x l (sym (ap first_drawn drawn_is) ∙ e) (sym drawn_is ∙ z))
-              (λ away e z. ok.newest a k x l e z);
         }
           where
             text_is : text_of u (t ∷ ts) ≡ text_of u ts
@@ -504,7 +459,6 @@ module _ (u : Setup) (boot : List Step) (runs : ℕ → Bool) (begun : IsBegun u
           ];
           owed = λ a j b z. ap (λ l. byte l j) more ∙ printed_low (text_of u ts) (stored_bytes r ++ (t.step.arg - 256) ∷ []) j b (ok.owed a j b (sym (unstored_mine now_none a) ∙ z));
           kept = kept_others gone (λ a k away z lt j m. absurd (alone a k away z));
-          newest = newest_others gone;
         }
           where
             more : text_of u (t ∷ ts) ≡ printed (text_of u ts) (stored_bytes r ++ (t.step.arg - 256) ∷ [])
@@ -527,7 +481,6 @@ module _ (u : Setup) (boot : List Step) (runs : ℕ → Bool) (begun : IsBegun u
         ];
         owed = λ a j b z. ap (λ l. byte l j) more ∙ printed_low (text_of u ts) (stored_bytes r) j b (ok.owed a j b (sym (unstored_mine un a) ∙ z));
         kept = kept_others gone (λ a k away z lt j m. stays (k + j) m);
-        newest = newest_others gone;
       }
         where
           more : text_of u (t ∷ ts) ≡ printed (text_of u ts) (stored_bytes r)
@@ -544,12 +497,8 @@ module _ (u : Setup) (boot : List Step) (runs : ℕ → Bool) (begun : IsBegun u
 
           new_byte : (l : List ℕ) → drawn r ≡ l → (i j b : ℕ) → i ≡ length (text_of u ts) + j → byte (stored_bytes r) j ≡ Some b → place boot (t ∷ ts) i ≡ b + 256
           new_byte [] e i j b at k = absurd (cc (ap (λ l. byte l j) (fit.none e), k))
-          new_byte (x ∷ l) e i j b at k = let z = total x l in by_room z.0 (ap first_drawn e ∙ z.1)
+          new_byte (x ∷ l) e i j b at k = let z = first_there x l in by_room z.0 (ap first_drawn e ∙ z.1)
             where
-              total : (x : ℕ) (l : List ℕ) → (f : ℕ) × (first_drawn (x ∷ l) ≡ Some f)
-              total x [] = (x, refl)
-              total x (y ∷ l) = total y l
-
               by_room : (f : ℕ) → first_drawn (drawn r) ≡ Some f → place boot (t ∷ ts) i ≡ b + 256
               by_room f z = elim (cases_lt f console_places) [
                 | inl lt ↦ (let v = ok.kept c f z lt j b k in let y : i ≡ f + j = at ∙ ap (λ x. x + j) (only c f z lt).0 in ap (place boot (t ∷ ts)) y ∙ (stays (f + j) v.0 ∙ v.1))
@@ -563,13 +512,22 @@ module _ (u : Setup) (boot : List Step) (runs : ℕ → Bool) (begun : IsBegun u
       places_step es is (fill_own i b w p un ar none q) = own_step i b w p un ar none (subst AreQuiet (sym is) q)
       places_step es is (fill_more i ds w p dr le len un q) = more_fill i ds w p dr le len un (subst AreQuiet (sym is) q)
       places_step es is (fill_last {e = e} {es = es'} i ds w p dr le len un n bs q) = last_fill i ds w p dr le len un e es' is n bs q
-      places_step es is (full {e = e} {es = es'} reason w n bs fit q) = full_step e es' reason is w n bs fit q
+      places_step es is (full {e = e} {es = es'} reason w n bs fit q) = full_step e es' reason is w n bs (fit follow) q
 
   pub places_of : (ts : List Placed) → IsHistory u.layout runs (history boot ts) → Told u ts → Placing u boot ts
-  places_of [] h d = record { text = λ i b e. absurd (cc (e)); owed = λ a i b e. absurd (cc (e)); kept = λ a f e lt j b z. absurd (cc (e)); newest = λ a f x ds e z. absurd (cc (e)) }
-  places_of (t ∷ ts) h d = go d.0.who (places_of ts (history_tail u runs t.step (history boot ts) h) d.1)
+  places_of [] h d = record { text = λ i b e. absurd (cc (e)); owed = λ a i b e. absurd (cc (e)); kept = λ a f e lt j b z. absurd (cc (e)) }
+  places_of (t ∷ ts) h d = go d.0.who (places_of ts past d.1)
     where
+      past : IsHistory u.layout runs (history boot ts)
+      past = history_tail u runs t.step (history boot ts) h
+
+      printed : Out u boot ts
+      printed = out_of u boot runs begun ts past d.1
+
+      follow : AreFollowing (drawn (mine t.step.actor ts))
+      follow = follow_of u boot runs begun ts past d.1 t.step.actor
+
       go : (t.step.actor ≢ loader) ⊎ IsIdleStep t → Placing u boot ts → Placing u boot (t ∷ ts)
-      go (inl ne) ok = places_step t ts h d ok (out_of u boot runs begun ts (history_tail u runs t.step (history boot ts) h) d.1) ne t.events refl (stores_of d.0.right.accounts)
-      go (inr i) ok = idle_step t ts h d ok (out_of u boot runs begun ts (history_tail u runs t.step (history boot ts) h) d.1)
+      go (inl ne) ok = places_step t ts h d ok printed follow ne t.events refl (stores_of d.0.right.accounts)
+      go (inr i) ok = idle_step t ts h d ok printed follow
           (λ s. absurd (subst IsPlace i.0 s)) (λ z. absurd (cc (sym i.0 ∙ z))) (subst NoBytes (sym i.2) tt)

@@ -57,7 +57,7 @@ says_of (fills byte h k g dd q) = silent (λ s. absurd s) q
 says_of (draws_none h le q) = silent (λ s. absurd s) q
 says_of (draws_more h k q) = silent (λ s. absurd s) q
 says_of (fills_more h k p le zz uu q) = silent (λ s. absurd s) q
-says_of (fills_last h k p le uu f g z d b q) = other (λ s. s) d.reason_is q
+says_of (fills_last h k p le uu f z d b q) = other (λ s. s) d.reason_is q
 says_of (ends {reason = reason} bytes h d g f b q) = says reason refl refl refl d.reason_is q
 says_of (takes at opaque h d b q) = other (λ s. s) d.reason_is q
 says_of (gives_start opaque h g q) = silent (λ s. absurd s) q

@@ -39,7 +39,7 @@ stays {es = es} (fills byte h k g dd q) f = quiet_leaves es q
 stays {es = es} (draws_none h le q) f = quiet_leaves es q
 stays {es = es} (draws_more h k q) f = quiet_leaves es q
 stays {es = es} (fills_more h k p le zz uu q) f = quiet_leaves es q
-stays (fills_last {es = es} h k p le uu y g z d b q) f = (d.stops_is, quiet_leaves es q)
+stays (fills_last {es = es} h k p le uu y z d b q) f = (d.stops_is, quiet_leaves es q)
 stays (ends {es = es} bytes h d g y b q) f = (d.stops_is, quiet_leaves es q)
 stays (takes {es = es} at opaque h d b q) f = (d.stops_is, quiet_leaves es q)
 stays {es = es} (gives_start opaque h g q) f = quiet_leaves es q

@@ -71,7 +71,7 @@ way_of (fills {es = es} byte h k g dd q) = rests h (λ s. absurd s) (quiet_entry
 way_of (draws_none {es = es} h le q) = rests h (λ s. absurd s) (quiet_entry es q)
 way_of (draws_more {es = es} h k q) = rests h (λ s. absurd s) (quiet_entry es q)
 way_of (fills_more {es = es} h k p le zz uu q) = rests h (λ s. absurd s) (quiet_entry es q)
-way_of (fills_last {es = es} h k p le uu f g z d b q) = rests h (λ s. absurd s) (d.entry_is, quiet_entry es q)
+way_of (fills_last {es = es} h k p le uu f z d b q) = rests h (λ s. absurd s) (d.entry_is, quiet_entry es q)
 way_of (ends {es = es} bytes h d g f b q) = rests h (λ s. absurd s) (d.entry_is, quiet_entry es q)
 way_of (takes {es = es} at opaque h d b q) = rests h (λ s. absurd s) (d.entry_is, quiet_entry es q)
 way_of (gives_start {es = es} opaque h g q) = rests h (λ s. absurd s) (quiet_entry es q)

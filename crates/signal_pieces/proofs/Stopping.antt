@@ -93,5 +93,5 @@ limits_stand stands p q b r set hart others o u a l x due =
       reason = Reason.Limit a;
       is = ap (λ n. reason_word (Reason.Limit n)) (sym own);
       pays = record { does = record { entry_is = refl; bytes_are = sym none; reason_is = refl; starts_is = refl; stops_is = refl }; begins_not = refl };
-      fills_it = cut_none (places (made s ∷ l)) (bytes (made s ∷ l)) drawn none;
+      fills_it = λ _. cut_none (places (made s ∷ l)) (bytes (made s ∷ l)) drawn none;
     }) refl (λ items. refl)

@@ -414,7 +414,7 @@ limit_turn_grows : Grows two_harts 0 add_turn limit_turn
 unfolding name_of need_of done walk_of sbi_of perform own_executed flushing reads_of
 limit_turn_grows = does (Stop 0 (Reason.Limit 0)) (makes (step 0 2 (Exchange 0) 3 0) (stays)
     (record { behind = (tt, refl); acks = tt; draws_last = tt }))
-    (record { own = refl; fit = (refl, omega arith, refl); pays = record { reason = Reason.Limit 0; is = refl; pays = record { does = record { entry_is = refl; bytes_are = refl; reason_is = refl; starts_is = refl; stops_is = refl }; begins_not = refl }; fills_it = record { none = λ e. refl; some = λ i e. absurd (cc (e)) } } })
+    (record { own = refl; fit = (refl, omega arith, refl); pays = record { reason = Reason.Limit 0; is = refl; pays = record { does = record { entry_is = refl; bytes_are = refl; reason_is = refl; starts_is = refl; stops_is = refl }; begins_not = refl }; fills_it = λ _. record { none = λ e. refl; some = λ i e. absurd (cc (e)) } } })
 
 start_turn_closed : IsClosed two_harts 0 start_turn
 unfolding name_of need_of done walk_of sbi_of perform own_executed flushing reads_of

@@ -204,7 +204,7 @@ hello_grows = makes (step 0 8 Store 0 0) (does (ended) (makes (step 0 2 (Exchang
     (record { behind = (tt, tt); acks = tt; draws_last = tt }))
     (record { own = refl; fit = (omega arith, record { runs = refl; holds_none = refl; not_due = refl; ipi = 0; loaded = (inr (inl ((refl, refl, refl), tt))); quiet = refl; shown = record { finds = λ x. 0; is_end = refl; stood = tt }; fetched = (refl, refl, refl, ((omega arith, omega arith, (omega arith, omega arith)), refl)) }); pays = fetched_quiet 0 (Sw 5 6 (pos 0)) }))
     (record { behind = (tt, refl); acks = tt; draws_last = tt }))
-    (record { own = refl; fit = (omega arith, record { holds = refl; shown = record { first_page = record { finds = λ x. 0; is_end = refl; stood = tt }; second_page = λ e. absurd (true≢false (sym e)) }; flushed = λ w s. tt; right = λ w s. refl }); pays = record { reason = Reason.Pass; is = refl; pays = record { does = record { entry_is = refl; bytes_are = refl; reason_is = refl; starts_is = refl; stops_is = refl }; begins_not = refl }; fills_it = record { none = λ e. refl; some = λ i e. absurd (cc (e)) } } }))
+    (record { own = refl; fit = (omega arith, record { holds = refl; shown = record { first_page = record { finds = λ x. 0; is_end = refl; stood = tt }; second_page = λ e. absurd (true≢false (sym e)) }; flushed = λ w s. tt; right = λ w s. refl }); pays = record { reason = Reason.Pass; is = refl; pays = record { does = record { entry_is = refl; bytes_are = refl; reason_is = refl; starts_is = refl; stops_is = refl }; begins_not = refl }; fills_it = λ _. record { none = λ e. refl; some = λ i e. absurd (cc (e)) } } }))
     (record { behind = (tt, refl); acks = tt; draws_last = tt })
 
 hello_closed : IsClosed guest 0 hello

@@ -1,5 +1,6 @@
 pub mod Sections
 pub mod Writers
+pub mod Following
 pub mod Offers
 pub mod Calls
 pub mod Accesses

@@ -14,7 +14,7 @@ use Rattle.machine_model.specs.State.{Setup}
 use Rattle.machine_model.specs.Run.{last_of, passes, is_snap_begin}
 use Rattle.step_laws.specs.Words.{monitor}
 use Rattle.step_laws.specs.Words.{console_places}
-use Rattle.turn_pieces.specs.Doing.{IsCutShort, last_start, first_drawn}
+use Rattle.turn_pieces.specs.Doing.{AreFollowing, HasRoom, IsCutShort, last_start}
 use Rattle.turn_pieces.specs.Folds.{drawn_next, unstored_next}
 use Rattle.turn_pieces.specs.Requests.{Acks}
 use Rattle.turn_pieces.specs.Draws.{may_draw, Drawing}
@@ -97,7 +97,7 @@ module _ (u : Setup) (a : ℕ) (l : Log) where
 
     -- STOP is exchanged
     pub give_reason : (s : Step) (reason : Reason) (e : Event) → name_of s.word ≡ Stop → s.op ≡ Exchange 0 → s.arg ≡ reason_word reason → actor_of e ≡ a → IsFit u a (made s ∷ l) e (own_part u a (made s ∷ l))
-        → Pays e None (bytes (made s ∷ l)) (Some reason) None false → IsCutShort (places (made s ∷ l)) (bytes (made s ∷ l)) → Grows u a l (did e ∷ made s ∷ l)
+        → Pays e None (bytes (made s ∷ l)) (Some reason) None false → (AreFollowing (places (made s ∷ l)) → IsCutShort (places (made s ∷ l)) (bytes (made s ∷ l))) → Grows u a l (did e ∷ made s ∷ l)
     give_reason s reason e n o arg own fit x f = acts s (gives s.arg) e (free s Stop (Exchange 0) n o refl tt tt) (owed_named l s Stop (Exchange 0) n o) own fit
         (record { reason = reason; is = arg; pays = x; fills_it = f })
 
@@ -154,6 +154,6 @@ module _ (u : Setup) (a : ℕ) (l : Log) where
       (k, inr (record { inside = k; others = others; drawn = p; is_byte = arg; count = count; none = clean }))) tt tt)
 
   -- and the last one's store has the event of all
-  pub print_all : (e : Event) (first : ℕ) → owed l ≡ fills → first_drawn (places l) ≡ Some first → first + length (places l) ≤ console_places
+  pub print_all : (e : Event) → owed l ≡ fills → (AreFollowing (places l) → HasRoom (places l))
       → actor_of e ≡ a → IsFit u a l e (own_part u a l) → Pays e None (bytes l) None None false → Grows u a l (did e ∷ l)
-  print_all e first d is fit_in own fit x = does e stays (record { own = own; fit = fit; pays = pays_for u a l fills e d (record { pays = x; first = first; first_is = is; fits = fit_in }) })
+  print_all e d fit_in own fit x = does e stays (record { own = own; fit = fit; pays = pays_for u a l fills e d (record { pays = x; fits = fit_in }) })

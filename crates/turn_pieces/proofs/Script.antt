@@ -114,7 +114,7 @@ done_turn_grows : Grows scripted 8 fifth_look done_turn
 unfolding name_of need_of done walk_of sbi_of perform own_executed flushing reads_of
 done_turn_grows = makes (step 8 (8 + 16 * 8 + 2) Store 1 0) (does (Stop 8 Reason.Stopped) (makes (step 8 2 (Exchange 0) 6 0) (stays)
     (record { behind = (tt, refl); acks = tt; draws_last = tt }))
-    (record { own = refl; fit = (refl, ([], refl)); pays = record { reason = Reason.Stopped; is = refl; pays = record { does = record { entry_is = refl; bytes_are = refl; reason_is = refl; starts_is = refl; stops_is = refl }; begins_not = refl }; fills_it = record { none = λ e. refl; some = λ i e. absurd (cc (e)) } } }))
+    (record { own = refl; fit = (refl, ([], refl)); pays = record { reason = Reason.Stopped; is = refl; pays = record { does = record { entry_is = refl; bytes_are = refl; reason_is = refl; starts_is = refl; stops_is = refl }; begins_not = refl }; fills_it = λ _. record { none = λ e. refl; some = λ i e. absurd (cc (e)) } } }))
     (record { behind = (tt, tt); acks = tt; draws_last = tt })
 
 swapped_closed : IsClosed scripted 8 swapped

@@ -22,7 +22,7 @@ use Rattle.machine_model.specs.Sbi.{sbi_of}
 use Rattle.machine_model.specs.Lawful.{flushing}
 use Rattle.walk_laws.specs.WalkLoads.{found, reads_of}
 use Rattle.turn_pieces.specs.Log.{made, did, Log, HasStood}
-use Rattle.turn_pieces.specs.Owed.{IsPromised, IsNext, MayMake, books}
+use Rattle.turn_pieces.specs.Owed.{HasPaid, IsPromised, IsNext, MayMake, books}
 use Rattle.turn_pieces.specs.Right.{IsRight, MayBe}
 use Rattle.turn_pieces.specs.Grows.{IsClosed}
 use Rattle.turn_pieces.proofs.Rows.{step, code, u, load_stop, load_ipi, set_run, first_code, second_code, fetched, inside, one, two}
@@ -77,6 +77,7 @@ machine_may_be = record {
   words = λ x. omega arith;
   here = (λ s. absurd s, λ t lt e. absurd (cc (e)));
   section = λ s. absurd (true≢false (sym s.0));
+  follow = tt;
   room = λ i e. subst (λ n. console_places ≡ console_places - n) (ap or_zero e) refl;
   started = λ lt e. refl;
 }
@@ -139,6 +140,14 @@ byte_in_another_place k = neither k.behind.1
     neither : IsPromised (books (did byte_printed ∷ drew)) 1 (79 + 256) ⊎ IsNext u 0 (books (did byte_printed ∷ drew)) 1 (79 + 256) → ⊥
     neither (inl x) = apart 0 1 refl (ap place_of x.1)
     neither (inr x) = apart 0 1 refl (ap first_of x.drawn)
+
+-- a call that is cut short though the place that it drew is there
+abbrev cut : Log
+cut = made (step 0 2 (Exchange 0) 4 0) ∷ made (step 0 4 Add 1 0) ∷ []
+
+cut_with_room : (e : Event) → HasPaid 0 cut e → ⊥
+unfolding name_of
+cut_with_room e k = apart 0 (console_places - 0) refl ((k.fills_it tt).some 0 refl).0
 
 -- a walk whose load stands before a flush that covers its leaf
 walk_before_flush : HasStood (renews 0 0x1000 (Walked.Leaf 0xcf 0x80001000 0)) (found (first_ram_word + 3) 0xcf ∷ []) (did (Flushes 0 Full) ∷ made (step 0 (first_ram_word + 3) Load 0 0xcf) ∷ []) → ⊥

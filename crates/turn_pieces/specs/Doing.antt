@@ -1,5 +1,5 @@
 -- What an event did beyond its hart's registers, and which steps leave what the reference machine has.
-use Rattle.std.specs.Prelude.{◌≡◌, ◌≢◌, ◌<◌, ℕ, ◌+◌, ◌-◌, Bool, true, false, List, [], ◌∷◌, length, Option, Some, None}
+use Rattle.std.specs.Prelude.{◌≡◌, ◌≢◌, ◌<◌, ℕ, suc, ◌+◌, ◌-◌, ◌≤◌, Bool, true, false, List, [], ◌∷◌, length, Option, Some, None}
 use Rattle.step_laws.specs.declared.steps.WordOp.{WordOp}
 use Rattle.step_laws.specs.declared.steps.WordOp.TheVariants.{Load, Exchange}
 use Rattle.step_laws.specs.Words.{console_places}
@@ -53,6 +53,18 @@ abbrev pub first_drawn : List ℕ → Option ℕ
 first_drawn [] = None
 first_drawn (i ∷ []) = Some i
 first_drawn (i ∷ j ∷ ds) = first_drawn (j ∷ ds)
+
+-- the drawn places, of which the last stands first, follow one another: each is the one before it and 1
+abbrev pub AreFollowing : List ℕ → Type 0
+AreFollowing [] = Unit {0}
+AreFollowing (i ∷ []) = Unit {0}
+AreFollowing (i ∷ j ∷ ds) = (i ≡ suc j) × AreFollowing (j ∷ ds)
+
+-- from the first place that was drawn on there are as many as were drawn
+pub record HasRoom (ds : List ℕ) : Type 0 where
+  pub first : ℕ
+  pub first_is : first_drawn ds ≡ Some first
+  pub fits : first + length ds ≤ console_places
 
 -- the bytes of a call for which there was no room: as many as there were places
 pub record IsCutShort (ds bytes : List ℕ) : Type 0 where

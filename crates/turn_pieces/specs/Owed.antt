@@ -12,8 +12,7 @@ use Rattle.machine_model.specs.Event.{Event, Starting, Start as Begin, SnapBegin
 use Rattle.machine_model.specs.State.{Setup}
 use Rattle.step_laws.specs.Words.{console_places, monitor}
 use Rattle.turn_pieces.specs.Folds.{Unstored, unstored_next}
-use Rattle.turn_pieces.specs.Doing.{first_drawn}
-use Rattle.turn_pieces.specs.Doing.{HasDone, is_begin, IsQuiet, IsCutShort, last_start}
+use Rattle.turn_pieces.specs.Doing.{HasDone, is_begin, IsQuiet, AreFollowing, HasRoom, IsCutShort, last_start}
 use Rattle.machine_model.specs.Run.{last_of, passes, is_snap_begin}
 use Rattle.machine_model.specs.ReasonWords.{reason_word}
 use Rattle.turn_pieces.specs.Log.{made, did, Log, steps_of, events_of}
@@ -193,15 +192,14 @@ pub record PrintsOne (b : Books) (i : ℕ) (e : Event) : Type 0 where
 
 pub record PrintsAll (b : Books) (e : Event) : Type 0 where
   pub pays : Pays e None b.bytes None None false
-  pub first : ℕ
-  pub first_is : first_drawn b.places ≡ Some first
-  pub fits : first + length b.places ≤ console_places
+  -- no port tells that the places follow one another, as they do in each history: where they don't, nothing is owed of them
+  pub fits : AreFollowing b.places → HasRoom b.places
 
 pub record Ends (b : Books) (number : ℕ) (e : Event) : Type 0 where
   pub reason : Reason
   pub is : number ≡ reason_word reason
   pub pays : Pays e None b.bytes (Some reason) None false
-  pub fills_it : IsCutShort b.places b.bytes
+  pub fills_it : AreFollowing b.places → IsCutShort b.places b.bytes
 
 pub record Starts (t : ℕ) (e : Event) : Type 0 where
   pub at : ℕ

@@ -30,7 +30,7 @@ use Rattle.machine_model.specs.Lawful.{Flushing, Flushed, flushing, NextLine}
 use Rattle.walk_laws.specs.WalkLoads.{found}
 use Rattle.walk_laws.specs.WalkLoads.{reads_of}
 use Rattle.turn_pieces.specs.Folds.{script_of, was_last}
-use Rattle.turn_pieces.specs.Doing.{first_drawn}
+use Rattle.turn_pieces.specs.Doing.{AreFollowing, first_drawn}
 use Rattle.turn_pieces.specs.Shared.{IsShared, mode_named}
 use Rattle.turn_pieces.specs.Log.{Log, steps_of, events_of, before, AtLast, HasStood}
 use Rattle.turn_pieces.specs.Kept.{own_part, known_word, places, handed_on, has_flushed_all}
@@ -73,7 +73,9 @@ pub record MayBe (u : Setup) (a : ℕ) (l : Log) (w : Surroundings) : Type 0 whe
   pub here : AtLast (HeldHere u w) l
   -- in section the words hold what was loaded
   pub section : IsInSection u.layout a (steps_of l) → (x v : ℕ) → IsShared (name_of x) → known_word x l ≡ Some v → w.memory x ≡ v
-  -- from the first place that was drawn for the event on, all are free
+  -- the places drawn for the event follow one another, as in each history
+  pub follow : AreFollowing (places l)
+  -- and from the first on all are free
   pub room : (i : ℕ) → first_drawn (places l) ≡ Some i → w.room ≡ console_places - i
   -- a hart that runs by its own events is started
   pub started : a < u.layout.harts → (own_part u a l).runs ≡ true → w.modes a ≡ Started
