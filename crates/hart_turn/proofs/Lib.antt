@@ -1,0 +1,7 @@
+mod Aside
+mod Sides
+mod Moving
+mod Begun
+mod Rounds
+mod Starts
+mod Looks

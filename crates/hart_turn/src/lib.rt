@@ -1,0 +1,14 @@
+//! The parts of a hart's turn: how it begins, goes in or alone, serves requests, starts, takes interrupts, and leaves.
+#![tactic(auto)]
+
+mod beginning;
+mod ends;
+mod hart;
+mod interrupts;
+mod leaving;
+mod requests;
+mod sections;
+mod starting;
+
+pub use ends::{Anew, TurnEnd, Wait4};
+pub use hart::{Call, Claim, Hart};
