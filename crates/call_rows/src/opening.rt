@@ -7,6 +7,7 @@ ghost use Rattle.guest_ram.specs.Areas.{IsOfRam};
 ghost use Rattle.guest_ram.specs.Ports.{IsBooting, GoesBy};
 ghost use Rattle.guest_ram.specs.Shown.{all_words, machine_of, seat_shown};
 ghost use Rattle.guest_ram_cases.specs.Tours.{IsLeading, IsSeatOf, fresh_seat};
+ghost use Rattle.call_rows.specs.Opened.{AreOthersStopped};
 
 use guest_ram::{Port, Seat, Table, Words, close, open_machine};
 use guest_ram_cases::{boot_ram, boot_words};
@@ -65,6 +66,7 @@ pub(crate) fn open_pair(
     ensures loader { IfOk result (λ pair. IsLeading (machine_of pair.table) (seat_shown pair.loader) (second ∷ 0 ∷ [])) }
     ensures first { IfOk result (λ pair. seat_shown pair.first ≡ fresh_seat (machine_of pair.table) 0 true) }
     ensures second { IfOk result (λ pair. seat_shown pair.second ≡ fresh_seat (machine_of pair.table) second false) }
+    ensures others { IfOk result (λ pair. AreOthersStopped layout (seat_shown pair.loader).own.steps) }
 {
     let (table, seat) = open_machine(alloc, layout)?;
     let mut pass = seat.pass(&table);

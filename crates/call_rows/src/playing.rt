@@ -1,10 +1,10 @@
 // Rows of two harts, or of hart 0 alone, and the machine's words behind them.
-ghost use Rattle.std.specs.Prelude.{◌≡◌, ◌≤◌, ◌<◌, IfOk, false, length, true};
+ghost use Rattle.std.specs.Prelude.{◌≡◌, ◌≤◌, ◌<◌, ◌↔◌, IfOk, IsSome, false, length, true};
 ghost use Rattle.step_laws.specs.Layout.{IsInLimits};
 ghost use Rattle.step_laws.specs.Steps.{words_of};
 ghost use Rattle.guest_ram.specs.Shown.{all_words};
 ghost use Rattle.guest_ram_cases.specs.Tours.{IsSameSeat};
-ghost use Rattle.call_rows.specs.Standing.{IsStanding};
+ghost use Rattle.call_rows.specs.Standing.{IsEither, IsStanding};
 
 use crate::opening::{Loaded, Pair, close_pair, open_pair};
 use crate::rows::{Came, Row, do_deed};
@@ -14,30 +14,36 @@ use step_laws::{Layout, MONITOR, NoMemory};
 
 /// Whether each hart runs.
 #[derive(Clone, Copy)]
-struct Runs {
-    first: bool,
-    second: bool,
+pub(crate) struct Runs {
+    pub(crate) first: bool,
+    pub(crate) second: bool,
 }
 
-/// What comes of a row.
-fn do_row<P: Port>(first: &mut P, second: &mut P, runs: &mut Runs, row: &Row) -> Came
+/// What comes of a row. `None`: it is of neither hart.
+pub(crate) fn do_row<P: Port>(
+    first: &mut P,
+    second: &mut P,
+    runs: &mut Runs,
+    row: &Row,
+) -> Option<Came>
     requires first { IsStanding runs.old.first (P.shows first.old) }
     requires second { IsStanding runs.old.second (P.shows second.old) }
+    ensures seated { IsSome result ↔ IsEither row.now.hart (P.shows first.old) (P.shows second.old) }
     ensures first { IsStanding runs.new.first (P.shows first.new) }
     ensures second { IsStanding runs.new.second (P.shows second.new) }
     ensures seat { IsSameSeat (P.shows first.old) (P.shows first.new) }
     ensures second_seat { IsSameSeat (P.shows second.old) (P.shows second.new) }
 {
-    if row.is_second {
-        let hart = second.actor();
-        let (came, runs_now) = do_deed(second, hart, runs.second, row.deed);
-        runs.second = runs_now;
-        came
-    } else {
-        let hart = first.actor();
-        let (came, runs_now) = do_deed(first, hart, runs.first, row.deed);
+    if row.hart == first.actor() {
+        let (came, runs_now) = do_deed(first, row.hart, runs.first, row.deed);
         runs.first = runs_now;
-        came
+        Some(came)
+    } else if row.hart == second.actor() {
+        let (came, runs_now) = do_deed(second, row.hart, runs.second, row.deed);
+        runs.second = runs_now;
+        Some(came)
+    } else {
+        None
     }
 }
 
@@ -45,6 +51,7 @@ fn do_row<P: Port>(first: &mut P, second: &mut P, runs: &mut Runs, row: &Row) ->
 fn play<P: Port>(first: &mut P, second: &mut P, rows: &[Row]) -> usize
     requires first { IsStanding true (P.shows first.old) }
     requires second { IsStanding false (P.shows second.old) }
+    ensures most { result ≤ length rows.now }
     ensures seat { IsSameSeat (P.shows first.old) (P.shows first.new) }
     ensures second_seat { IsSameSeat (P.shows second.old) (P.shows second.new) }
 {
@@ -53,22 +60,23 @@ fn play<P: Port>(first: &mut P, second: &mut P, rows: &[Row]) -> usize
         second: false,
     };
     for (number, row) in rows.iter().enumerate() {
-        if do_row(first, second, &mut runs, row) != row.to {
+        if do_row(first, second, &mut runs, row) != Some(row.to) {
             return number;
         }
     }
     rows.len()
 }
 
-/// The same by one hart, which runs; a row of the second doesn't come out right.
+/// The same by one hart, which runs; a row of another doesn't come out right.
 fn play_first<P: Port>(port: &mut P, rows: &[Row]) -> usize
     requires standing { IsStanding true (P.shows port.old) }
+    ensures most { result ≤ length rows.now }
     ensures seat { IsSameSeat (P.shows port.old) (P.shows port.new) }
 {
     let hart = port.actor();
     let mut runs = true;
     for (number, row) in rows.iter().enumerate() {
-        if row.is_second {
+        if row.hart != hart {
             return number;
         }
         let (came, runs_now) = do_deed(port, hart, runs, row.deed);
@@ -92,6 +100,7 @@ pub fn play_rows(
     requires limits { IsInLimits layout }
     requires other { 1 ≤ second }
     requires second { second < layout.harts }
+    ensures most { IfOk result (λ made. made.0 ≤ length rows.now) }
     ensures count { IfOk result (λ made. length (all_words made.1) ≡ words_of layout) }
 {
     let Pair {
@@ -116,6 +125,7 @@ pub fn play_alone(
     rows: &[Row],
 ) -> Result<(usize, Words), NoMemory>
     requires limits { IsInLimits layout }
+    ensures most { IfOk result (λ made. made.0 ≤ length rows.now) }
     ensures count { IfOk result (λ made. length (all_words made.1) ≡ words_of layout) }
 {
     let Pair {

@@ -26,10 +26,10 @@ pub enum Came {
     Nothing,
 }
 
-/// The second hart does this, or hart 0, and this is to come of it.
+/// A hart does this, and this is to come of it.
 #[derive(Clone, Copy, Debug)]
 pub struct Row {
-    pub is_second: bool,
+    pub hart: u8,
     pub deed: Deed,
     pub to: Came,
 }

@@ -52,7 +52,7 @@ fn end_of(want: Want) -> SbiEnd {
 }
 
 /// A hart makes a call, in the section or not, that comes to this.
-fn row(is_second: bool, called: Function, args: [u64; 4], section: bool, end: SbiEnd) -> Row {
+fn row(hart: u8, called: Function, args: [u64; 4], section: bool, end: SbiEnd) -> Row {
     let (extension, function) = called;
     let call = Call {
         extension,
@@ -60,16 +60,16 @@ fn row(is_second: bool, called: Function, args: [u64; 4], section: bool, end: Sb
         args,
     };
     Row {
-        is_second,
+        hart,
         deed: Deed::Calls { call, section },
         to: Came::End(end),
     }
 }
 
 /// A stopped hart looks whether it is to begin.
-fn begins(is_second: bool, to: Came) -> Row {
+fn begins(hart: u8, to: Came) -> Row {
     Row {
-        is_second,
+        hart,
         deed: Deed::Begins,
         to,
     }

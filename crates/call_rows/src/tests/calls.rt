@@ -25,7 +25,7 @@ pub(super) fn push_all(
     for section in [false, true] {
         for (function, args, want) in answers {
             let called = (extension, *function);
-            rows.push(row(false, called, *args, section, end_of(*want)))?;
+            rows.push(row(0, called, *args, section, end_of(*want)))?;
         }
     }
     Ok(())
@@ -71,7 +71,7 @@ fn other_harts_are_there_or_not(rt: HostRuntime) -> Result<(), Fail> {
 fn push_probes(rows: &mut Vec<Row>, extensions: &[u64], value: u64) -> Result<(), Fail> {
     for extension in extensions {
         let probed = SbiEnd::Pair { error: 0, value };
-        rows.push(row(false, (BASE, 3), [*extension, 0, 0, 0], false, probed))?;
+        rows.push(row(0, (BASE, 3), [*extension, 0, 0, 0], false, probed))?;
     }
     Ok(())
 }
@@ -93,20 +93,20 @@ fn push_absent(rows: &mut Vec<Row>) -> Result<(), Fail> {
         for function in [0, 1, ALL] {
             let called = (extension, function);
             let end = end_of(LegacyFails(NotSupported));
-            rows.push(row(false, called, [5, 6, 7, 8], false, end))?;
+            rows.push(row(0, called, [5, 6, 7, 8], false, end))?;
         }
     }
     for extension in ABSENT {
         for function in [0, 3] {
             let called = (extension, function);
-            rows.push(row(false, called, [5, 6, 7, 8], false, failed(NotSupported)))?;
+            rows.push(row(0, called, [5, 6, 7, 8], false, failed(NotSupported)))?;
         }
     }
     for called in OTHER_FUNCTIONS {
-        rows.push(row(false, called, [1, 0, 0, 0], false, failed(NotSupported)))?;
+        rows.push(row(0, called, [1, 0, 0, 0], false, failed(NotSupported)))?;
     }
     for (_, called, args, want) in UNSET {
-        rows.push(row(false, called, args, false, end_of(want)))?;
+        rows.push(row(0, called, args, false, end_of(want)))?;
     }
     Ok(())
 }
@@ -136,7 +136,7 @@ fn calls_end_the_machine(rt: HostRuntime) -> Result<(), Fail> {
     for (called, args, reason) in ENDINGS {
         // 1 in STOP is a pass, 0x102 a fail with the code 1
         let word = if reason == Reason::Pass { 1 } else { 0x102 };
-        let rows = [row(false, called, args, false, end_of(Ends(reason)))];
+        let rows = [row(0, called, args, false, end_of(Ends(reason)))];
         ends_with(&rt, rt.alloc(), 1, &rows, word)?;
         ends_with(&rt, rt.alloc(), 2, &rows, word)?;
         ends_with(&rt, rt.alloc(), 4, &rows, word)?;

@@ -55,7 +55,7 @@ fn all_print(
     let mut rows = Vec::new(alloc);
     let mut console = Vec::new(alloc);
     for (called, args, want, printed) in writes {
-        rows.push(row(false, *called, *args, section, end_of(*want)))?;
+        rows.push(row(0, *called, *args, section, end_of(*want)))?;
         print(&mut console, *printed)?;
     }
     let words = plays_on(rt, alloc, harts, &rows)?;
@@ -88,7 +88,7 @@ fn writes_need_the_section(rt: HostRuntime) -> Result<(), Fail> {
             Printed::Nothing => end_of(want),
             Printed::Byte(_) | Printed::Text(_, _) => SbiEnd::NeedsSection,
         };
-        rows.push(row(false, called, args, false, end))?;
+        rows.push(row(0, called, args, false, end))?;
     }
     let words = plays_on(&rt, rt.alloc(), 2, &rows)?;
     has_printed(&rt, &words, b"");
@@ -99,21 +99,21 @@ fn writes_need_the_section(rt: HostRuntime) -> Result<(), Fail> {
 #[test]
 fn a_full_console_ends_the_machine(rt: HostRuntime) -> Result<(), Fail> {
     let mut rows: Vec<Row> = Vec::new(rt.alloc());
-    rows.push(row(false, PUT, [0x41, 0, 0, 0], false, SbiEnd::Single(0)))?;
+    rows.push(row(0, PUT, [0x41, 0, 0, 0], false, SbiEnd::Single(0)))?;
     let args = [256, TEXT_PLACE, 0, 0];
     let printed = SbiEnd::Pair {
         error: 0,
         value: 256,
     };
     for _ in 0..4095 {
-        rows.push(row(false, WRITE, args, true, printed))?;
+        rows.push(row(0, WRITE, args, true, printed))?;
     }
     let full = SbiEnd::Over(Reason::OutFull);
-    rows.push(row(false, WRITE, args, true, full))?;
-    rows.push(row(false, WRITE_BYTE, [0x42, 0, 0, 0], false, full))?;
-    rows.push(row(false, PUT, [0x42, 0, 0, 0], false, full))?;
+    rows.push(row(0, WRITE, args, true, full))?;
+    rows.push(row(0, WRITE_BYTE, [0x42, 0, 0, 0], false, full))?;
+    rows.push(row(0, PUT, [0x42, 0, 0, 0], false, full))?;
     // no byte needs no place
-    rows.push(row(false, WRITE, [0, TEXT_PLACE, 0, 0], false, SUCCESS))?;
+    rows.push(row(0, WRITE, [0, TEXT_PLACE, 0, 0], false, SUCCESS))?;
     let words = plays_on(&rt, rt.alloc(), 2, &rows)?;
     // the three bytes for which there was no place drew one each
     assert_eq!(rt; words.get(cons_word()), 1_048_579);

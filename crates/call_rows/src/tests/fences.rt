@@ -61,9 +61,9 @@ fn masks_are_fenced(
     for (mask, base, named) in masks {
         let args = [*mask, *base, 0, 0];
         let bits = bits_of(*named, harts);
-        rows.push(row(false, (RFENCE, 0), args, false, sent(bits)))?;
-        rows.push(row(false, (RFENCE, 1), args, false, fenced(bits)))?;
-        rows.push(row(false, (RFENCE, 2), args, false, fenced(bits)))?;
+        rows.push(row(0, (RFENCE, 0), args, false, sent(bits)))?;
+        rows.push(row(0, (RFENCE, 1), args, false, fenced(bits)))?;
+        rows.push(row(0, (RFENCE, 2), args, false, fenced(bits)))?;
     }
     let words = plays_on(rt, alloc, harts, &rows)?;
     assert_eq!(rt; words.get(ipi_word()), 0);
@@ -78,7 +78,7 @@ fn masks_are_sent(rt: &impl Abort, alloc: Global, harts: u8, masks: &[MaskRow]) 
     let mut idle = Vec::new(alloc);
     for (mask, base, named) in masks {
         let bits = bits_of(*named, harts);
-        let sends = row(false, SEND, [*mask, *base, 0, 0], false, sent(bits));
+        let sends = row(0, SEND, [*mask, *base, 0, 0], false, sent(bits));
         let got = bits.unwrap_or(0);
         if got == 0 {
             idle.push(sends)?;
@@ -139,7 +139,7 @@ fn ranges_are_of_pages(rt: HostRuntime) -> Result<(), Fail> {
     for (start, size, reach) in RANGES {
         for function in [1, 2] {
             let args = [1, 0, start, size];
-            rows.push(row(false, (RFENCE, function), args, false, reached(reach)))?;
+            rows.push(row(0, (RFENCE, function), args, false, reached(reach)))?;
         }
     }
     // of both errors the mask's comes first
@@ -154,7 +154,7 @@ fn ranges_are_of_pages(rt: HostRuntime) -> Result<(), Fail> {
 #[test]
 fn fences_name_stopped_harts(rt: HostRuntime) -> Result<(), Fail> {
     let mut rows = Vec::new(rt.alloc());
-    push_steps(&mut rows, 3, &FENCES_OF_STOPPED)?;
+    push_steps(&mut rows, &[0, 3], &FENCES_OF_STOPPED)?;
     plays_with(&rt, rt.alloc(), 4, 3, &rows)?;
     Ok(())
 }

@@ -4,49 +4,50 @@ ghost use Rattle.step_laws.specs.Steps.{words_of};
 ghost use Rattle.guest_ram.specs.Shown.{all_words};
 
 use super::{SUCCESS, begins, end_of, plays_on, plays_with, row};
-use crate::{Came, Row};
+use crate::{Came, Row, play_four};
 use guest_ram::Words;
 use sbi_rows::Want::{Gives, Stops};
 use sbi_rows::{
     ALL, ALL_RUN, BEGIN, BEGINS, BOTH_RUN, FIRST_STARTED_AGAIN, FIRST_STOPS_FIRST, HartRow,
-    LAST_STOPS_AT_LIMIT, LONE_STOP, NEVER_BEGUN, NO_ARGS, PENDING_AT_LIMIT, PENDING_AT_STOP,
+    LAST_STOPS_AT_LIMIT, LONE_STOP, NEVER_BEGUN, NO_ARGS, PAGES, PENDING_AT_LIMIT, PENDING_AT_STOP,
     RUNNING_AT_LIMIT, SECOND_STOPS, SECOND_STOPS_FIRST, SENT, START, STARTED, STATES, STATUS, STOP,
     STOPS_IN_NO_ORDER, Want,
 };
 use std::alloc::Global;
 use std::process::Abort;
 use std::test::Fail;
-use step_laws::{hsm_word, ipi_word, live_word, opaque_word, start_word, stop_word};
+use step_laws::{
+    Layout, hsm_word, ipi_word, live_word, opaque_word, run_word, start_word, stop_word,
+};
 
 fn is_success(want: Want) -> bool {
     matches!(want, Gives(_))
 }
 
-/// The steps of hart 0 and this one, without those of others, which have no seat. A hart whose start is pending looks before its next call
-/// whether it is to begin, and finds what the start gave.
-pub(super) fn push_steps(rows: &mut Vec<Row>, second: u8, steps: &[HartRow]) -> Result<(), Fail> {
-    let mut is_pending = false;
-    let mut named = 0;
-    let mut at = 0;
-    let mut opaque = 0;
+/// The steps of these harts, without those of others, which have no seat. A hart whose start is pending looks before its next call whether
+/// it is to begin, and finds what the start gave.
+pub(super) fn push_steps(
+    rows: &mut Vec<Row>,
+    seated: &[u8],
+    steps: &[HartRow],
+) -> Result<(), Fail> {
+    let mut pending = [None; 4];
     for (hart, called, args, want) in steps {
-        let is_second = *hart == second;
-        if *hart != 0 && !is_second {
+        if !seated.contains(hart) {
             continue;
         }
-        if is_pending && named == u64::from(*hart) {
-            rows.push(begins(is_second, Came::Began { at, opaque }))?;
-            is_pending = false;
+        let begun = pending.get_mut(usize::from(*hart)).and_then(Option::take);
+        if let Some((at, opaque)) = begun {
+            rows.push(begins(*hart, Came::Began { at, opaque }))?;
         }
-        let [target, place, value, _] = *args;
-        let is_other = target != u64::from(*hart) && (target == 0 || target == u64::from(second));
-        if *called == START && is_other && is_success(*want) {
-            is_pending = true;
-            named = target;
-            at = place;
-            opaque = value;
+        let [target, at, opaque, _] = *args;
+        if *called == START && is_success(*want) {
+            let place = usize::try_from(target).unwrap_or(usize::MAX);
+            if let Some(start) = pending.get_mut(place) {
+                *start = Some((at, opaque));
+            }
         }
-        rows.push(row(is_second, *called, *args, false, end_of(*want)))?;
+        rows.push(row(*hart, *called, *args, false, end_of(*want)))?;
     }
     Ok(())
 }
@@ -58,8 +59,23 @@ fn steps_play(rt: &impl Abort, alloc: Global, harts: u8, steps: &[HartRow]) -> R
     ensures { IfOk result (λ words. length (all_words words) ≡ words_of (record { harts = 8; pages = 1024 })) }
 {
     let mut rows = Vec::new(alloc);
-    push_steps(&mut rows, 1, steps)?;
+    push_steps(&mut rows, &[0, 1], steps)?;
     plays_on(rt, alloc, harts, &rows)
+}
+
+/// Plays steps of all of four harts.
+fn four_play(rt: &impl Abort, alloc: Global, steps: &[HartRow]) -> Result<Words, Fail>
+    ensures { IfOk result (λ words. length (all_words words) ≡ words_of (record { harts = 8; pages = 1024 })) }
+{
+    let mut rows = Vec::new(alloc);
+    push_steps(&mut rows, &[0, 1, 2, 3], steps)?;
+    let layout = Layout {
+        harts: 4,
+        pages: PAGES,
+    };
+    let (right, words) = play_four(alloc, layout, &[], &rows)?;
+    assert_eq!(rt; right, rows.len());
+    Ok(words)
 }
 
 /// How many harts are not stopped, the states of harts 0 and 1, and why the machine has ended.
@@ -71,8 +87,8 @@ fn compare(rt: &impl Abort, words: &Words, live: u64, states: [u64; 2], stop: u6
     assert_eq!(rt; words.get(stop_word()), stop);
 }
 
-/// The same of four harts, where the machine has not ended.
-fn compare_four(rt: &impl Abort, words: &Words, live: u64, states: [u64; 4])
+/// The same of four harts.
+fn compare_four(rt: &impl Abort, words: &Words, live: u64, states: [u64; 4], stop: u64)
     requires { length (all_words words.now) ≡ words_of (record { harts = 8; pages = 1024 }) }
 {
     assert_eq!(rt; words.get(live_word()), live);
@@ -83,7 +99,7 @@ fn compare_four(rt: &impl Abort, words: &Words, live: u64, states: [u64; 4])
         words.get(hsm_word(3)),
     ];
     assert_eq!(rt; found, states);
-    assert_eq!(rt; words.get(stop_word()), 0);
+    assert_eq!(rt; words.get(stop_word()), stop);
 }
 
 /// All harts are stopped: what STOP has then.
@@ -103,28 +119,28 @@ fn harts_go_through_their_states(rt: HostRuntime) -> Result<(), Fail> {
 #[test]
 fn a_second_life_begins_elsewhere(rt: HostRuntime) -> Result<(), Fail> {
     let rows = [
-        begins(true, Came::Nothing),
-        row(false, START, [1, BEGIN, 77, 0], false, SUCCESS),
+        begins(1, Came::Nothing),
+        row(0, START, [1, BEGIN, 77, 0], false, SUCCESS),
         begins(
-            true,
+            1,
             Came::Began {
                 at: BEGIN,
                 opaque: 77,
             },
         ),
-        row(true, STOP, NO_ARGS, false, end_of(Stops)),
-        begins(true, Came::Nothing),
-        row(false, START, [1, BEGIN + 4, ALL, 0], false, SUCCESS),
-        row(false, STATUS, [1, 0, 0, 0], false, end_of(Gives(2))),
+        row(1, STOP, NO_ARGS, false, end_of(Stops)),
+        begins(1, Came::Nothing),
+        row(0, START, [1, BEGIN + 4, ALL, 0], false, SUCCESS),
+        row(0, STATUS, [1, 0, 0, 0], false, end_of(Gives(2))),
         begins(
-            true,
+            1,
             Came::Began {
                 at: BEGIN + 4,
                 opaque: ALL,
             },
         ),
-        row(true, STATUS, [0, 0, 0, 0], false, SUCCESS),
-        row(false, STATUS, [1, 0, 0, 0], false, SUCCESS),
+        row(1, STATUS, [0, 0, 0, 0], false, SUCCESS),
+        row(0, STATUS, [1, 0, 0, 0], false, SUCCESS),
     ];
     let words = plays_on(&rt, rt.alloc(), 2, &rows)?;
     compare(&rt, &words, 2, [0, 0], 0);
@@ -191,10 +207,10 @@ fn harts_begin_with_what_they_were_given(rt: HostRuntime) -> Result<(), Fail> {
     for (hart, at, opaque) in BEGINS {
         let target = u64::from(hart);
         let rows = [
-            row(false, START, [target, at, opaque, 0], false, SUCCESS),
-            row(false, STATUS, [target, 0, 0, 0], false, end_of(Gives(2))),
-            begins(true, Came::Began { at, opaque }),
-            row(false, STATUS, [target, 0, 0, 0], false, SUCCESS),
+            row(0, START, [target, at, opaque, 0], false, SUCCESS),
+            row(0, STATUS, [target, 0, 0, 0], false, end_of(Gives(2))),
+            begins(hart, Came::Began { at, opaque }),
+            row(0, STATUS, [target, 0, 0, 0], false, SUCCESS),
         ];
         assert!(rt; 1 <= hart && hart < 4, "a hart that there is");
         let words = plays_with(&rt, rt.alloc(), 4, hart, &rows)?;
@@ -211,21 +227,48 @@ fn harts_start_one_another(rt: HostRuntime) -> Result<(), Fail> {
     let alloc = rt.alloc();
     for (second, states) in [(1, [0, 0, 2, 2]), (2, [0, 2, 0, 2]), (3, [0, 2, 2, 0])] {
         let mut rows = Vec::new(alloc);
-        push_steps(&mut rows, second, &ALL_RUN)?;
+        push_steps(&mut rows, &[0, second], &ALL_RUN)?;
         assert!(rt; 1 <= second && second < 4, "a hart that there is");
         let words = plays_with(&rt, alloc, 4, second, &rows)?;
-        compare_four(&rt, &words, 4, states);
+        compare_four(&rt, &words, 4, states, 0);
     }
     Ok(())
 }
 
 // Hart 3 starts hart 1, whose start stays pending: it is not stopped, so the other two may stop in any order.
 #[test]
-fn harts_stop_in_no_order(rt: HostRuntime) -> Result<(), Fail> {
+fn two_of_four_stop(rt: HostRuntime) -> Result<(), Fail> {
     let mut rows = Vec::new(rt.alloc());
-    push_steps(&mut rows, 3, &STOPS_IN_NO_ORDER)?;
+    push_steps(&mut rows, &[0, 3], &STOPS_IN_NO_ORDER)?;
     let words = plays_with(&rt, rt.alloc(), 4, 3, &rows)?;
-    compare_four(&rt, &words, 1, [1, 2, 1, 1]);
+    compare_four(&rt, &words, 1, [1, 2, 1, 1], 0);
+    Ok(())
+}
+
+// Each of the four is started by another, begins, and stops. The last to stop ends the machine.
+#[test]
+fn harts_stop_in_no_order(rt: HostRuntime) -> Result<(), Fail> {
+    let words = four_play(&rt, rt.alloc(), &STOPS_IN_NO_ORDER)?;
+    compare_four(&rt, &words, 0, [1, 1, 1, 1], ALL_STOPPED);
+    for (hart, start, opaque) in [
+        (0, 0, 0),
+        (1, BEGIN, 0x8003_1000),
+        (2, BEGIN, 0x8003_2000),
+        (3, BEGIN, 0x8003_3000),
+    ] {
+        assert_eq!(rt; words.get(start_word(hart)), start);
+        assert_eq!(rt; words.get(opaque_word(hart)), opaque);
+        // each entered for its calls, and has left
+        assert_eq!(rt; words.get(run_word(hart)), 0);
+    }
+    Ok(())
+}
+
+// All four run, and so each of them calls.
+#[test]
+fn one_hart_starts_all(rt: HostRuntime) -> Result<(), Fail> {
+    let words = four_play(&rt, rt.alloc(), &ALL_RUN)?;
+    compare_four(&rt, &words, 4, [0, 0, 0, 0], 0);
     Ok(())
 }
 
