@@ -12,12 +12,14 @@ use Rattle.tlb_table.proofs.Aside.{IsOffTable}
 use Rattle.tlb_fill.proofs.Marking.{same_goes}
 use Rattle.kept_fills.proofs.Staying.{fills_stay}
 use Rattle.work_queue.proofs.Ringed.{IsNoPlace, sent_goes, served_goes}
-use Rattle.request_serving.specs.Served.{HasFills}
+use Rattle.guest_access.specs.Reaching.{KnowsFills}
 use Rattle.hart_calls.specs.Asked.{AreHarts, IsAsked}
 use Rattle.hart_calls.specs.declared.asking.Asked.{Asked}
 use Rattle.sbi_calls.proofs.Fenced.{fence_goes}
 use Rattle.work_queue.specs.declared.rings.Sent.{Sent}
+use Rattle.rv64_priv.specs.Csr.{regime}
 use Rattle.rv64_priv.specs.State.{Arch}
+use Rattle.rv64_priv.specs.declared.state.Regime.{Regime}
 use Rattle.hart_signals.proofs.Aside.{IsOffLock, IsOffStates, beside_goes, opening_goes, owing_goes, running_goes}
 use Rattle.exclusive.specs.Claims.{IsOfClaims}
 use Rattle.guest_ram.specs.Areas.{IsOfSection}
@@ -91,8 +93,12 @@ pub untouched_goes : (n : ℕ) (A : Word → Type 0) (p q : Shown) → ((w : Wor
 untouched_goes n A p q aside goes e = fold_goes has_touched_next false n A p q (λ w op arg answer b t. touch_aside w op arg answer b (aside w t)) goes ∙ e
 
 -- the entries of a table that no step is on
-pub fills_goes : (b : Book) (n : ℕ) (A : Word → Type 0) (p q : Shown) → ((w : Word) → A w → IsOffTable w) → GoesBy n A p q → HasFills b p → HasFills b q
-fills_goes b n A p q off goes f = (f.0, made_all goes.added ++ f.1, f.2, fills_stay p q b f.0 f.1 f.2 goes.added (ap (λ (x : Shown). x.own.steps) goes.grown) (same_goes n A p q off goes) f.3)
+pub fills_goes : (b : Book) (r : Regime) (n : ℕ) (A : Word → Type 0) (p q : Shown) → ((w : Word) → A w → IsOffTable w) → GoesBy n A p q → KnowsFills b r p → KnowsFills b r q
+fills_goes b r n A p q off goes f = record {
+  items = made_all goes.added ++ f.items;
+  fills = f.fills;
+  goes = fills_stay p q b r f.items f.fills goes.added (ap (λ (x : Shown). x.own.steps) goes.grown) (same_goes n A p q off goes) f.goes;
+}
 
 -- a call in progress
 pub call_goes : (n : ℕ) (A : Word → Type 0) (call : Call) (sent : Sent) (c : Arch) (p q : Shown) → GoesBy n A p q → IsCallOf call sent c p → IsCallOf call sent c q
@@ -109,7 +115,7 @@ module _ (n : ℕ) (A : Word → Type 0) (h k : Hart) (p q : Shown) (lock : (w :
   pub with_goes : GoesBy n A p q → has_set_stop q.own.steps ≡ has_set_stop p.own.steps → IsActing q → IsStill h k → StandsBy k q → GoesWith h p → GoesWith k q
   with_goes goes same acting still stands can = subst (λ (z : Hart). GoesWith z q) (sym still) (record {
     beside = beside_goes h.book n A p q lock goes acting can.beside;
-    fills = fills_goes h.book n A p q table goes can.fills;
+    fills = fills_goes h.book (regime h.arch) n A p q table goes can.fills;
     number = can.number ∙ sym (actor_goes n A p q goes);
     runs = running_goes n A p q states goes ∙ can.runs;
     free = opening_goes n A p q states goes ∙ can.free;

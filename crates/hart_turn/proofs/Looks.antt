@@ -16,6 +16,8 @@ use Rattle.signal_pieces.specs.Signalling.{IsFree, nobody}
 use Rattle.signal_pieces.proofs.Stopping.{interrupts_stand, looks_let_fetch}
 use Rattle.access_pieces.specs.Serving.{Rests}
 use Rattle.fetch_pieces.specs.Fetching.{MayFetch}
+use Rattle.fetch_pieces.specs.Regimes.{IsAlike}
+use Rattle.fetch_pieces.proofs.Regimes.{fills_agree}
 use Rattle.hart_turn.specs.declared.hart.Call.{Call}
 use Rattle.hart_turn.specs.declared.hart.Hart.{Hart}
 use Rattle.hart_turn.specs.Harts.{GoesWith, IsCallOf, own_of}
@@ -31,10 +33,10 @@ pub call_none : (call : Call) (sent : Sent) (c : Arch) (p : Shown) (a : ℕ) (l 
 call_none call sent c p a l is = subst (λ (z : Call). IsCallIn z sent c p None a l) (sym is) refl
 
 -- its registers may be others
-pub with_arch : (h : Hart) (c : Arch) (q : Shown) → h.call ≡ Call.Nothing → GoesWith h q → GoesWith (record h { arch = c }) q
-with_arch h c q nothing can = record {
+pub with_arch : (h : Hart) (c : Arch) (q : Shown) → h.call ≡ Call.Nothing → IsAlike (regime h.arch) (regime c) → GoesWith h q → GoesWith (record h { arch = c }) q
+with_arch h c q nothing alike can = record {
   beside = can.beside;
-  fills = can.fills;
+  fills = record { items = can.fills.items; fills = can.fills.fills; goes = fills_agree q h.book (regime h.arch) (regime c) can.fills.items can.fills.fills alike can.fills.goes };
   number = can.number;
   runs = can.runs;
   free = can.free;

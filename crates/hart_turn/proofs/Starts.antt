@@ -1,11 +1,10 @@
 -- A stopped hart's start: what goes with it behind one, and where it wasn't called or its lock was held.
-use Rattle.std.proofs.Common.{◌≡◌, ℕ, ◌+◌, Bool, true, false, None, refl, sym, ap, subst, ◌∙◌}
+use Rattle.std.proofs.Common.{[], ◌≡◌, ℕ, ◌+◌, Bool, true, false, None, refl, sym, ap, subst, ◌∙◌}
 use Rattle.std.specs.Prelude.{IfNone, IfSome, Option, Some, ◌==◌, if◌then◌else◌}
 use Rattle.std.proofs.lemmas.Bool.{eq-eqb}
 use Rattle.rv64_priv.specs.Csr.{regime}
 use Rattle.rv64_priv.specs.State.{Arch}
 use Rattle.rv64_exec.specs.Code.{Code}
-use Rattle.step_laws.specs.declared.request.Request.TheVariants.{FlushAll}
 use Rattle.step_laws.specs.declared.steps.WordOp.TheVariants.{Exchange, Load, Store}
 use Rattle.step_laws.specs.Harts.{closed, is_owing, is_owing_next, is_running, is_running_next, opening, opening_next}
 use Rattle.step_laws.specs.Map.{Word, Hsm, Lock, Opaque, Size, Start as StartWord, Tlb}
@@ -16,11 +15,12 @@ use Rattle.guest_ram.specs.Ports.{GoesBy, Made, Shown}
 use Rattle.guest_ram.proofs.Moves.{actor_goes, fold_adds, stands_goes}
 use Rattle.tlb_entry.specs.declared.books.Book.{Book}
 use Rattle.tlb_table.proofs.Aside.{IsOffTable}
-use Rattle.flush.specs.Flushed.{full_steps}
 use Rattle.kept_fills.specs.Beside.{IsBeside}
 use Rattle.work_queue.proofs.Ringed.{IsNoPlace, sent_goes, served_goes}
-use Rattle.request_serving.specs.Served.{HasFills}
-use Rattle.request_serving.proofs.Acking.{filled, held_filled}
+use Rattle.rv64_priv.specs.Flush.{Full}
+use Rattle.rv64_priv.specs.declared.state.Regime.{Regime}
+use Rattle.flush.specs.Flushed.{behind_flush}
+use Rattle.guest_access.specs.Reaching.{KnowsFills}
 use Rattle.hart_signals.specs.declared.starts.Start.{Start}
 use Rattle.hart_signals.specs.Starts.{HasBegun, HasFoundHeld, HasFoundStopped, IsOfStart}
 use Rattle.hart_signals.proofs.Aside.{IsOffStates, opening_goes, owing_goes, running_goes}
@@ -112,7 +112,7 @@ module _ (n : ℕ) (h : Hart) (p q : Shown) (goes : GoesBy n IsOfStart p q) (can
   nothing : h.call ≡ Call.Nothing
   nothing = can.stopped stopped
 
-  with_start : (c : Arch) (running : Bool) (book : Book) → IsBeside book q → HasFills book q → IsOf running q → GoesWith (record h { arch = c; runs = running; book = book }) q
+  with_start : (c : Arch) (running : Bool) (book : Book) → IsBeside book q → KnowsFills book (regime c) q → IsOf running q → GoesWith (record h { arch = c; runs = running; book = book }) q
   with_start c running book beside fills is = record {
     beside = beside;
     fills = fills;
@@ -134,22 +134,27 @@ module _ (n : ℕ) (h : Hart) (p q : Shown) (goes : GoesBy n IsOfStart p q) (can
 
   pub with_stopped : (book : Book) → IsBeside book q → HasFoundStopped p q h.book book → GoesWith (record h { book = book }) q
   with_stopped book beside x = with_start h.arch h.runs book beside
-      (subst (λ (z : Book). HasFills z q) (sym x.book) (fills_goes h.book 1 (λ v. v ≡ Hsm p.own.actor) p q (λ v e. subst IsOffTable (sym e) tt) (goes_one p q (Hsm p.own.actor) Load 0 x.found x.finds) can.fills))
+      (subst (λ (z : Book). KnowsFills z (regime h.arch) q) (sym x.book) (fills_goes h.book (regime h.arch) 1 (λ v. v ≡ Hsm p.own.actor) p q (λ v e. subst IsOffTable (sym e) tt) (goes_one p q (Hsm p.own.actor) Load 0 x.found x.finds) can.fills))
       (looks_at h.runs p q x.found x.finds before)
 
   pub with_held : (holder : ℕ) (book : Book) → IsBeside book q → HasFoundHeld holder p q h.book book → GoesWith (record h { book = book }) q
   with_held holder book beside x = with_start h.arch h.runs book beside
-      (held_filled holder x.called q h.book book (fills_goes h.book 1 (λ v. v ≡ Hsm p.own.actor) p x.called (λ v e. subst IsOffTable (sym e) tt) (goes_one p x.called (Hsm p.own.actor) Load 0 2 x.finds) can.fills) x.busy)
+      (subst (λ (z : Book). KnowsFills z (regime h.arch) q) (sym x.busy.book) (fills_goes h.book (regime h.arch) 1 (λ v. v ≡ Lock h.book.hart) x.called q (λ v e. subst IsOffTable (sym e) tt) (goes_one x.called q (Lock h.book.hart) (Exchange 0) (x.called.own.actor + 1) holder x.busy.found.1)
+      (fills_goes h.book (regime h.arch) 1 (λ v. v ≡ Hsm p.own.actor) p x.called (λ v e. subst IsOffTable (sym e) tt) (goes_one p x.called (Hsm p.own.actor) Load 0 2 x.finds) can.fills)))
       (locks_at h.runs x.called q h.book.hart holder x.busy.found.1 (looks_at h.runs p x.called 2 x.finds before))
 
   -- behind the start
-  fills_begun : (start : Start) (book : Book) → HasBegun start p q h.book book → HasFills book q
-  fills_begun start book x =
-      let called = fills_goes h.book 1 (λ v. v ≡ Hsm p.own.actor) p x.called (λ v e. subst IsOffTable (sym e) tt) (goes_one p x.called (Hsm p.own.actor) Load 0 2 x.finds) can.fills in
-      let flushed = filled (full_steps h.book.size) x.called x.flushed h.book book FlushAll called x.goes x.flushes in
-      let placed = fills_goes book 1 (λ v. v ≡ StartWord p.own.actor) x.flushed x.placed (λ v e. subst IsOffTable (sym e) tt) (goes_one x.flushed x.placed (StartWord p.own.actor) Load 0 start.at x.places) flushed in
-      let handed = fills_goes book 1 (λ v. v ≡ Opaque p.own.actor) x.placed x.handed (λ v e. subst IsOffTable (sym e) tt) (goes_one x.placed x.handed (Opaque p.own.actor) Load 0 start.opaque x.hands) placed in
-      fills_goes book 1 (λ v. v ≡ Hsm p.own.actor) x.handed q (λ v e. subst IsOffTable (sym e) tt) (goes_one x.handed q (Hsm p.own.actor) Store 0 0 x.begins) handed
+  fills_begun : (r : Regime) (start : Start) (book : Book) → HasBegun start p q h.book book → KnowsFills book r q
+  fills_begun r start book x =
+      let called = fills_goes h.book (regime h.arch) 1 (λ v. v ≡ Hsm p.own.actor) p x.called (λ v e. subst IsOffTable (sym e) tt) (goes_one p x.called (Hsm p.own.actor) Load 0 2 x.finds) can.fills in
+      let flushed : KnowsFills book r x.flushed = record {
+        items = behind_flush Full x.goes.added called.items;
+        fills = [];
+        goes = x.flushes.goes x.goes.added (regime h.arch) r called.items called.fills (ap (λ (y : Shown). y.own.steps) x.goes.grown) called.goes;
+      } in
+      let placed = fills_goes book r 1 (λ v. v ≡ StartWord p.own.actor) x.flushed x.placed (λ v e. subst IsOffTable (sym e) tt) (goes_one x.flushed x.placed (StartWord p.own.actor) Load 0 start.at x.places) flushed in
+      let handed = fills_goes book r 1 (λ v. v ≡ Opaque p.own.actor) x.placed x.handed (λ v e. subst IsOffTable (sym e) tt) (goes_one x.placed x.handed (Opaque p.own.actor) Load 0 start.opaque x.hands) placed in
+      fills_goes book r 1 (λ v. v ≡ Hsm p.own.actor) x.handed q (λ v e. subst IsOffTable (sym e) tt) (goes_one x.handed q (Hsm p.own.actor) Store 0 0 x.begins) handed
 
   state_begun : (start : Start) (book : Book) → HasBegun start p q h.book book → IsOf true q
   state_begun start book x =
@@ -157,7 +162,7 @@ module _ (n : ℕ) (h : Hart) (p q : Shown) (goes : GoesBy n IsOfStart p q) (can
       begins_at x.handed q (subst (λ a. Made x.handed q (Hsm a) Store 0 0) (sym own) x.begins) x.runs
 
   pub with_begun : (c : Arch) (start : Start) (book : Book) → IsBeside book q → HasBegun start p q h.book book → GoesWith (record h { arch = c; runs = true; book = book }) q
-  with_begun c start book beside x = with_start c true book beside (fills_begun start book x) (state_begun start book x)
+  with_begun c start book beside x = with_start c true book beside (fills_begun (regime c) start book x) (state_begun start book x)
 
   -- and with its log
   module _ (u : Setup) (a : ℕ) (l : Log) (x : AtWork h p u a l) where

@@ -1,5 +1,6 @@
 -- A hart between the parts of its turns, and how it goes with its port.
 use Rattle.std.specs.Prelude.{◌≡◌, ℕ, ◌==◌, ◌<◌, ◌≤◌, Bool, true, false, if◌then◌else◌, replicate, Option}
+use Rattle.rv64_priv.specs.Csr.{regime}
 use Rattle.rv64_priv.specs.State.{Arch}
 use Rattle.rv64_exec.specs.Code.{Code}
 use Rattle.step_laws.specs.Harts.{closed, is_owing, is_running, opening}
@@ -11,7 +12,7 @@ use Rattle.guest_ram.specs.Ports.{Shown, layout_of}
 use Rattle.kept_fills.specs.Beside.{IsBeside}
 use Rattle.work_queue.specs.declared.rings.Sent.{Sent}
 use Rattle.work_queue.specs.Rings.{IsSentBy, IsServedBy}
-use Rattle.request_serving.specs.Served.{HasFills}
+use Rattle.guest_access.specs.Reaching.{KnowsFills}
 use Rattle.hart_calls.specs.Asked.{AreHarts, IsAsked}
 use Rattle.hart_calls.specs.declared.asking.Asked.{Asked}
 use Rattle.hart_calls.specs.Spans.{IsSpan}
@@ -58,7 +59,7 @@ IsCallOf (Call.Fence harts span fence) sent c p = IsFenceOf harts span fence sen
 -- given a reason for the machine's end its count is below its limit
 pub record GoesWith (h : Hart) (p : Shown) : Type 0 where
   pub beside : IsBeside h.book p
-  pub fills : HasFills h.book p
+  pub fills : KnowsFills h.book (regime h.arch) p
   pub number : h.number ≡ p.own.actor
   pub runs : is_running p.own.actor p.own.runs p.own.steps ≡ h.runs
   pub free : opening p.own.steps ≡ closed
