@@ -1,5 +1,5 @@
 -- What steps on other words leave of what goes with a hart.
-use Rattle.std.proofs.Common.{◌≡◌, ℕ, Bool, false, ◌++◌, refl, sym, ap, subst, ◌∙◌}
+use Rattle.std.proofs.Common.{◌<◌, ◌≡◌, ℕ, Bool, false, ◌++◌, refl, sym, ap, subst, ◌∙◌}
 use Rattle.step_laws.specs.declared.steps.WordOp.{WordOp}
 use Rattle.step_laws.specs.Map.{Word, Dirty, Kick, Pend, Ram, Run, Stop}
 use Rattle.step_laws.specs.Output.{has_set_stop, has_set_stop_next, has_touched, has_touched_next}
@@ -112,8 +112,8 @@ call_goes n A (Call.Fence harts span fence) sent c p q goes x = record {
 
 -- steps that leave its table and lock, its state, its rings and STOP
 module _ (n : ℕ) (A : Word → Type 0) (h k : Hart) (p q : Shown) (lock : (w : Word) → A w → IsOffLock w) (table : (w : Word) → A w → IsOffTable w) (states : (w : Word) → A w → IsOffStates w) (places : (w : Word) → A w → IsNoPlace w) where
-  pub with_goes : GoesBy n A p q → has_set_stop q.own.steps ≡ has_set_stop p.own.steps → IsActing q → IsStill h k → StandsBy k q → GoesWith h p → GoesWith k q
-  with_goes goes same acting still stands can = subst (λ (z : Hart). GoesWith z q) (sym still) (record {
+  pub with_goes : GoesBy n A p q → (has_set_stop q.own.steps ≡ false → h.count < h.limit) → IsActing q → IsStill h k → StandsBy k q → GoesWith h p → GoesWith k q
+  with_goes goes below acting still stands can = subst (λ (z : Hart). GoesWith z q) (sym still) (record {
     beside = beside_goes h.book n A p q lock goes acting can.beside;
     fills = fills_goes h.book (regime h.arch) n A p q table goes can.fills;
     number = can.number ∙ sym (actor_goes n A p q goes);
@@ -123,7 +123,7 @@ module _ (n : ℕ) (A : Word → Type 0) (h k : Hart) (p q : Shown) (lock : (w :
     stands = subst (λ (z : Hart). StandsBy z q) still stands;
     sent = sent_goes n A p q places goes h.sent can.sent;
     served = served_goes n A p q places goes h.served can.served;
-    below = λ unsaid. can.below (sym same ∙ unsaid);
+    below = below;
     call = call_goes n A h.call h.sent h.arch p q goes can.call;
     stopped = can.stopped;
   })
@@ -133,7 +133,30 @@ stand_as h p q x s = record { phase_is = s.phase ∙ x.phase_is; claim_is = s.cl
 
 -- one step on such a word
 module _ (h : Hart) (p q : Shown) (w : Word) (op : WordOp) (arg answer : ℕ) (m : Made p q w op arg answer) (lock : IsOffLock w) (table : IsOffTable w) (states : IsOffStates w) (place : IsNoPlace w) (aside : IsAside w) where
-  pub with_step : has_set_stop_next w op arg answer (has_set_stop p.own.steps) ≡ has_set_stop p.own.steps → IsActing q → GoesWith h p → GoesWith h q
-  with_step same acting can =
+  said : has_set_stop q.own.steps ≡ has_set_stop_next w op arg answer (has_set_stop p.own.steps)
+  said = fold_adds has_set_stop_next false p q m.word arg answer op w m.step m.name
+
+  pub with_one : (has_set_stop q.own.steps ≡ false → h.count < h.limit) → IsActing q → GoesWith h p → GoesWith h q
+  with_one below acting can =
       let goes = goes_one p q w op arg answer m in with_goes 1 (λ v. v ≡ w) h h p q (λ v e. subst IsOffLock (sym e) lock) (λ v e. subst IsOffTable (sym e) table) (λ v e. subst IsOffStates (sym e) states) (λ v e. subst IsNoPlace (sym e) place)
-      goes (fold_adds has_set_stop_next false p q m.word arg answer op w m.step m.name ∙ same) acting refl (stand_as h p q can.stands (stands_goes 1 (λ v. v ≡ w) p q (λ v e. subst IsAside (sym e) aside) goes)) can
+      goes below acting refl (stand_as h p q can.stands (stands_goes 1 (λ v. v ≡ w) p q (λ v e. subst IsAside (sym e) aside) goes)) can
+
+  pub with_step : has_set_stop_next w op arg answer (has_set_stop p.own.steps) ≡ has_set_stop p.own.steps → IsActing q → GoesWith h p → GoesWith h q
+  with_step same acting can = with_one (λ unsaid. can.below (sym (said ∙ same) ∙ unsaid)) acting can
+
+-- another count below the limit
+pub with_count : (h : Hart) (count : ℕ) (q : Shown) → (has_set_stop q.own.steps ≡ false → count < h.limit) → GoesWith h q → GoesWith (record h { count = count }) q
+with_count h count q below can = record {
+  beside = can.beside;
+  fills = can.fills;
+  number = can.number;
+  runs = can.runs;
+  free = can.free;
+  paid = can.paid;
+  stands = record { phase_is = can.stands.phase_is; claim_is = can.stands.claim_is; quantum = can.stands.quantum };
+  sent = can.sent;
+  served = can.served;
+  below = below;
+  call = can.call;
+  stopped = can.stopped;
+}

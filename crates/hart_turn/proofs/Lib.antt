@@ -5,3 +5,4 @@ mod Begun
 mod Rounds
 mod Starts
 mod Looks
+mod Counted

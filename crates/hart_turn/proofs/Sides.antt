@@ -99,7 +99,7 @@ pub record Goes (h k : Hart) (p q : Shown) : Type 0 where
 
 module _ (most : ℕ) (h k : Hart) (p q : Shown) (can : GoesWith h p) (goes : GoesBy most IsOfSides p q) (acting : IsActing q) (still : IsStill h k) where
   with_sides : StandsBy k q → GoesWith k q
-  with_sides stands = with_goes most IsOfSides h k p q sides_off_lock sides_off sides_off_states sides_no_place goes (stop_goes most IsOfSides p q sides_no_end goes) acting still stands can
+  with_sides stands = with_goes most IsOfSides h k p q sides_off_lock sides_off sides_off_states sides_no_place goes (λ unsaid. can.below (sym (stop_goes most IsOfSides p q sides_no_end goes) ∙ unsaid)) acting still stands can
 
   works_sides : WorksOn h k p q
   works_sides u a l x =

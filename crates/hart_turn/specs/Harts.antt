@@ -1,5 +1,5 @@
 -- A hart between the parts of its turns, and how it goes with its port.
-use Rattle.std.specs.Prelude.{◌≡◌, ℕ, ◌==◌, ◌<◌, ◌≤◌, Bool, true, false, if◌then◌else◌, replicate, Option}
+use Rattle.std.specs.Prelude.{◌≡◌, ℕ, ◌+◌, ◌==◌, ◌<◌, ◌≤◌, Bool, true, false, if◌then◌else◌, replicate, Option}
 use Rattle.rv64_priv.specs.Csr.{regime}
 use Rattle.rv64_priv.specs.State.{Arch}
 use Rattle.rv64_exec.specs.Code.{Code}
@@ -81,6 +81,10 @@ gone_in h = record h { inside = true; quantum = 64 }
 
 abbrev pub with_claim : Claim → Hart → Hart
 with_claim claim h = record h { claim = claim }
+
+-- it has ended an instruction more
+abbrev pub counted : Hart → Hart
+counted h = record h { count = h.count + 1 }
 
 -- what the reference machine has of it, with the word that it holds
 abbrev pub own_of : Hart → (held : Option Code) → Own

@@ -18,7 +18,8 @@ use Rattle.hart_signals.specs.declared.starts.Start.{Start}
 use Rattle.request_serving.specs.Served.{HasGone, HasStopped}
 use Rattle.hart_turn.specs.declared.hart.Claim.{Claim}
 use Rattle.hart_turn.specs.declared.hart.Hart.{Hart}
-use Rattle.hart_turn.specs.Harts.{is_made, with_claim}
+use Rattle.guest_devices.specs.Output.{HasSetStop}
+use Rattle.hart_turn.specs.Harts.{counted, is_made, with_claim}
 use Rattle.signal_pieces.specs.Signalling.{IsOfSides}
 
 -- outside, nothing is done; inside, the own KICK was loaded, and where it wasn't 0 the hart left
@@ -115,3 +116,8 @@ pub record HasLooked (taken : Bool) (h : Hart) (p q : Shown) : Type 0 where
   pub found : ℕ
   pub looks : Made p q Ipi Load 0 found
   pub taken_is : taken ≡ is_pending h.arch h.number found
+
+-- an instruction was counted, and with the last one of its limit STOP exchanged
+pub data HasCounted (h k : Hart) (p q : Shown) : Type 0 where
+  within : k ≡ counted h → k.count ≢ k.limit → q ≡ p → HasCounted h k p q
+  at_limit : (stands : Reason) → k ≡ counted h → k.count ≡ k.limit → HasSetStop (Reason.Limit p.own.actor) stands p q → HasCounted h k p q

@@ -2,6 +2,7 @@
 #![tactic(auto)]
 
 mod beginning;
+mod counting;
 mod ends;
 mod hart;
 mod interrupts;
