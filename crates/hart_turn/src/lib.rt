@@ -7,6 +7,7 @@ mod ends;
 mod hart;
 mod interrupts;
 mod leaving;
+mod planning;
 mod requests;
 mod sections;
 mod starting;
