@@ -7,3 +7,5 @@ mod Starts
 mod Looks
 mod Counted
 mod Pages
+mod Coded
+mod Executed

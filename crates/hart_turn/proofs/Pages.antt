@@ -1,5 +1,5 @@
 -- The page that an instruction flushes has a number of 52 bits.
-use Rattle.std.proofs.Common.{◌≡◌, ◌≢◌, ℕ, ◌<◌, ◌^◌, ◌/◌, ◌%◌, Bool, true, false, refl, arith}
+use Rattle.std.proofs.Common.{◌≢◌, ℕ, ◌<◌, ◌^◌, ◌/◌, ◌%◌, Bool, true, false, refl, arith}
 use Rattle.std.specs.Prelude.{◌==◌, ◌&&◌, if◌then◌else◌, Option, Some, None}
 use Rattle.rv64_decode.specs.declared.instruction.Instr.{Instr}
 use Rattle.rv64_decode.specs.declared.instruction.Instr.TheVariants.{Jal, Jalr, Beq, Bne, Blt, Bge, Bltu, Bgeu, Ecall, Sret, Sfencevma, Csrrw, Csrrs, Csrrc, Csrrwi, Csrrsi, Csrrci}
@@ -7,7 +7,7 @@ use Rattle.rv64_priv.specs.State.{Arch}
 use Rattle.rv64_priv.specs.Csr.{csr_value}
 use Rattle.rv64_exec.specs.declared.needs.FlushOf.{FlushOf}
 use Rattle.rv64_exec.specs.declared.needs.Need.{Need}
-use Rattle.rv64_exec.specs.Plan.{branch, csr_known_need, csr_need, flush_at, jal_target, jalr_target, jump, makes_write, need_of, needs_flush, new_value, reg}
+use Rattle.rv64_exec.specs.Plan.{branch, csr_known_need, csr_need, jal_target, jalr_target, jump, makes_write, need_of, needs_flush, new_value, reg}
 use Rattle.need_serving.specs.Ends.{IsPageNumber, IsPageOf}
 
 page_in : (b : Bool) (n m : Need) → IsPageOf n → IsPageOf m → IsPageOf (if b then n else m)

@@ -1,3 +1,4 @@
 pub mod Harts
 pub mod Logs
 pub mod Parts
+pub mod Executing

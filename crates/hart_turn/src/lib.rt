@@ -4,6 +4,8 @@
 mod beginning;
 mod counting;
 mod ends;
+mod executing;
+mod fetching;
 mod hart;
 mod interrupts;
 mod leaving;
