@@ -4,6 +4,7 @@ use Rattle.std.specs.Prelude.{◌==◌, ◌&&◌}
 use Rattle.rv64_decode.specs.declared.instruction.Instr.{Instr}
 use Rattle.rv64_priv.specs.Csr.{regime}
 use Rattle.rv64_priv.specs.State.{Arch}
+use Rattle.rv64_priv.specs.Trap.{trapped}
 use Rattle.rv64_priv.specs.declared.state.Regime.{Regime}
 use Rattle.rv64_exec.specs.Finish.{after}
 use Rattle.rv64_exec.specs.Plan.{need_of}
@@ -37,7 +38,7 @@ use Rattle.tlb_lock.specs.declared.lock.Busy.{Busy}
 use Rattle.access_pieces.specs.Serving.{MayGiveUp, Settles, Wants}
 use Rattle.access_pieces.proofs.GivenUp.{give_ups_stand}
 use Rattle.fetch_pieces.specs.Regimes.{IsAlike}
-use Rattle.fetch_pieces.proofs.Regimes.{fills_agree, tells_agree}
+use Rattle.fetch_pieces.proofs.Regimes.{fills_agree, tells_agree, trap_alike}
 use Rattle.need_pieces.specs.Laws.{CanServe, IsNoFence}
 use Rattle.need_pieces.specs.Serving.{IsOfRegister, IsServedIn, MayServe, halted}
 use Rattle.need_pieces.proofs.Served.{fences_wait, needs_served}
@@ -47,9 +48,9 @@ use Rattle.hart_turn.specs.declared.hart.Call.{Call}
 use Rattle.hart_turn.specs.declared.hart.Hart.{Hart}
 use Rattle.hart_turn.specs.Harts.{GoesWith, IsCallOf, counted, is_made, own_of}
 use Rattle.hart_turn.specs.Logs.{AtCount, AtEnd}
-use Rattle.hart_turn.specs.Executing.{AtExecute, ExecutesOn, after_end}
+use Rattle.hart_turn.specs.Executing.{AfterNeed, AtExecute, ExecutesOn, after_end, after_unknown}
 use Rattle.hart_turn.proofs.Aside.{stand_as}
-use Rattle.hart_turn.proofs.Looks.{call_none}
+use Rattle.hart_turn.proofs.Looks.{call_none, with_arch}
 
 needs_aside : (w : Word) → IsOfNeeds w → IsAside w
 needs_aside Pend t = absurd t
@@ -256,3 +257,38 @@ module _ (h : Hart) (i : Instr) (n : Need) (section : Bool) (book : Book) (p q :
       subst (λ (z : Shown). Part (AtExecute h (record { word = word; instr = Some i }) p) (AtExecute (record h { book = book }) (record { word = word; instr = Some i }) z)) (sym e.0)
       (subst (λ (b : Book). Part (AtExecute h (record { word = word; instr = Some i }) p) (AtExecute (record h { book = b }) (record { word = word; instr = Some i }) p)) (sym e.1)
       (part_nowhere (AtExecute h (record { word = word; instr = Some i }) p)))
+
+-- a word that is no instruction
+unknown_own : (h : Hart) (word : ℕ) → own_executed (only (Answer.Fault 2 word)) (own_of h (Some (record { word = word; instr = None }))) ≡ own_of (counted (after_unknown word h)) None
+unfolding own_executed
+unknown_own h word = refl
+
+module _ (h : Hart) (p : Shown) (word : ℕ) (can : GoesWith h p) (free : h.call ≡ Call.Nothing) where
+  pub with_unknown : GoesWith (after_unknown word h) p
+  with_unknown = with_arch h (trapped h.arch 2 word) p free (trap_alike h.arch 2 word) can
+
+  pub unknown_works : MayTouch (layout_of p) p.own.actor p.own.steps → (is_made h.claim ≡ true → IsInSection (layout_of p) p.own.actor p.own.steps) → may_draw p.own.steps ≡ true → h.runs ≡ true
+      → Part (AtExecute h (record { word = word; instr = None }) p) (AfterNeed (ends.Done (Answer.Fault 2 word)) (record { word = word; instr = None }) (after_unknown word h) p)
+  unknown_works touch alone draws running u a l x =
+      let serves : CanServe p h.book (is_made h.claim) = record {
+        access = record { beside = can.beside; touch = touch };
+        runner = record { acting = can.beside.acting; hart = can.beside.hart; runs = can.runs ∙ running; free = can.free };
+        told = alone;
+        draws = draws;
+      } in
+      let z = needs_served p p h.book h.book h.arch (is_made h.claim) (Need.Trap 2 word) (ends.Done (Answer.Fault 2 word)) tt tt serves (refl, (refl, refl)) tt (regime h.arch) refl nobody (own_of h (Some (record { word = word; instr = None })))
+      (record { arch_is = refl; holds = refl; need_is = refl }) u a l (record { rests = x.rests; not_due = x.not_due; runs = running }) in record {
+        late = z.late;
+        grows = z.grows;
+        holds = record {
+          limit_is = x.limit_is;
+          settles = settles_alike (own_of (counted (after_unknown word h)) None) h.book (regime h.arch) (regime (trapped h.arch 2 word)) p u a z.late (trap_alike h.arch 2 word)
+              (subst (λ (o : Own). Settles nobody o p h.book (regime h.arch) u a z.late) (unknown_own h word) z.holds.settles);
+          due_is = ap (λ (b : Bool). b && (h.count + 1 == u.limit)) z.holds.counts;
+          free = free;
+        };
+      }
+
+-- of this word
+pub executed_by : (end : NeedEnd) (i : Instr) (h k : Hart) (p q : Shown) (word : ℕ) → ExecutesOn end i h k p q → Part (AtExecute h (record { word = word; instr = Some i }) p) (AfterNeed end (record { word = word; instr = Some i }) k q)
+executed_by end i h k p q word works = works word

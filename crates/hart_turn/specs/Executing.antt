@@ -1,15 +1,17 @@
 -- What a fetch and an instruction leave of a hart, and what they are to its log of steps and events.
-use Rattle.std.specs.Prelude.{◌≡◌, ℕ, false, Some}
+use Rattle.std.specs.Prelude.{None, Option, ◌≡◌, ℕ, false, Some}
 use Rattle.rv64_decode.specs.Encoding.{Decodes}
 use Rattle.rv64_decode.specs.declared.instruction.Instr.{Instr}
 use Rattle.rv64_priv.specs.Csr.{regime}
 use Rattle.rv64_priv.specs.Trap.{trapped}
 use Rattle.rv64_exec.specs.Code.{Code}
 use Rattle.rv64_exec.specs.Finish.{after}
+use Rattle.rv64_exec.specs.Plan.{need_of}
 use Rattle.rv64_exec.specs.declared.needs.Answer.{Answer}
 use Rattle.machine_model.specs.State.{Setup}
 use Rattle.guest_ram.specs.Ports.{Shown}
 use Rattle.tlb_entry.specs.declared.books.Book.{Book}
+use Rattle.need_serving.specs.Serving.{IsServed}
 use Rattle.need_serving.specs.declared.ends.NeedEnd.{NeedEnd}
 use Rattle.need_serving.specs.declared.ends.NeedEnd.TheVariants as ends
 use Rattle.code_fetch.specs.declared.fetching.Fetched.{Fetched}
@@ -20,7 +22,7 @@ use Rattle.access_pieces.specs.Serving.{Rests}
 use Rattle.table_pieces.specs.Flushing.{IsNotDue}
 use Rattle.signal_pieces.specs.Signalling.{nobody}
 use Rattle.hart_turn.specs.declared.hart.Hart.{Hart}
-use Rattle.hart_turn.specs.Harts.{counted, own_of}
+use Rattle.hart_turn.specs.Harts.{counted, is_made, own_of}
 use Rattle.hart_turn.specs.Logs.{AtCount, AtEnd, AtFetch}
 
 -- the hart, whose book is this then, has trapped behind a fault; else it is as it was
@@ -52,9 +54,25 @@ abbrev pub after_unknown : (word : ℕ) → Hart → Hart
 after_unknown word h = record h { arch = trapped h.arch 2 word }
 
 -- An instruction that was executed is counted; one that asks for a fence is held until that is done; one that was given up is at the end of the
--- turn's work. The word is whichever decodes so
+-- turn's work
+abbrev pub AfterNeed : NeedEnd → Code → Hart → Shown → Setup → ℕ → Log → Type 0
+AfterNeed (ends.Done answer) code k q u a l = AtCount (counted k) q u a l
+AfterNeed ends.Stopped code k q u a l = AtCount (counted k) q u a l
+AfterNeed (ends.Fence harts span) code k q u a l = AtExecute k code q u a l
+AfterNeed end code k q u a l = AtEnd k q u a l
+
+-- whichever word decodes so
 abbrev pub ExecutesOn : NeedEnd → Instr → (h k : Hart) (p q : Shown) → Type 0
-ExecutesOn (ends.Done answer) i h k p q = (word : ℕ) → Part (AtExecute h (record { word = word; instr = Some i }) p) (AtCount (counted k) q)
-ExecutesOn ends.Stopped i h k p q = (word : ℕ) → Part (AtExecute h (record { word = word; instr = Some i }) p) (AtCount (counted k) q)
-ExecutesOn (ends.Fence harts span) i h k p q = (word : ℕ) → Part (AtExecute h (record { word = word; instr = Some i }) p) (AtExecute k (record { word = word; instr = Some i }) q)
-ExecutesOn end i h k p q = (word : ℕ) → Part (AtExecute h (record { word = word; instr = Some i }) p) (AtEnd k q)
+ExecutesOn end i h k p q = (word : ℕ) → Part (AtExecute h (record { word = word; instr = Some i }) p) (AfterNeed end (record { word = word; instr = Some i }) k q)
+
+-- what was done for a word: a word that is no instruction traps, and any other serves what it needs
+pub data HasDone (word : ℕ) (h k : Hart) (p q : Shown) : Option Instr → NeedEnd → Type 0 where
+  trapped_on : k ≡ after_unknown word h → q ≡ p → HasDone word h k p q None (ends.Done (Answer.Fault 2 word))
+  served : {end : NeedEnd} (i : Instr) → k ≡ after_end i k.book end h → IsServed p q h.book k.book h.arch (is_made h.claim) (need_of h.arch i) end → HasDone word h k p q (Some i) end
+
+-- the word decodes so, that was done, and its log goes on
+pub record HasExecuted (word : ℕ) (end : NeedEnd) (h k : Hart) (p q : Shown) : Type 0 where
+  pub instr : Option Instr
+  pub decodes : Decodes word instr
+  pub done : HasDone word h k p q instr end
+  pub part : Part (AtExecute h (record { word = word; instr = instr }) p) (AfterNeed end (record { word = word; instr = instr }) k q)

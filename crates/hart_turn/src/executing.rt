@@ -9,13 +9,13 @@ ghost use Rattle.turn_pieces.specs.Draws.{may_draw};
 ghost use Rattle.need_serving.specs.Serving.{IsOfNeeds, IsServed};
 ghost use Rattle.hart_turn.specs.declared.hart.Call.{Call as TheCall};
 ghost use Rattle.hart_turn.specs.Harts.{GoesWith, is_made};
-ghost use Rattle.hart_turn.specs.Executing.{ExecutesOn, after_end, after_unknown};
+ghost use Rattle.hart_turn.specs.Executing.{ExecutesOn, HasExecuted, after_end};
 
 use crate::hart::Hart;
 use crate::planning::plan_of;
 use guest_ram::Port;
 use need_serving::{NeedEnd, serve_need};
-use rv64_decode::Instr;
+use rv64_decode::{Instr, decode};
 use rv64_exec::{Answer, finish};
 use rv64_priv::trap;
 
@@ -58,9 +58,28 @@ pub(crate) fn execute<P: Port>(hart: &mut Hart, port: &mut P, instr: &Instr) -> 
     }
 }
 
-/// Lets a hart trap that has fetched a word which is no instruction.
-pub(crate) fn refuse(hart: &mut Hart, word: u32)
-    ensures hart { hart.new ≡ after_unknown word hart.old }
+/// Executes the word that a hart has fetched. One that is no instruction traps.
+pub(crate) fn execute_word<P: Port>(hart: &mut Hart, port: &mut P, word: u32) -> NeedEnd
+    requires with { GoesWith hart.old (P.shows port.old) }
+    requires runs { hart.old.runs ≡ true }
+    requires free { hart.old.call ≡ TheCall.Nothing }
+    requires below { hart.old.count < hart.old.limit }
+    requires touch { MayTouch (layout_of (P.shows port.old)) (P.shows port.old).own.actor (P.shows port.old).own.steps }
+    requires alone { is_made hart.old.claim ≡ true → IsInSection (layout_of (P.shows port.old)) (P.shows port.old).own.actor (P.shows port.old).own.steps }
+    requires draws { may_draw (P.shows port.old).own.steps ≡ true }
+    ensures executed { HasExecuted word result hart.old hart.new (P.shows port.old) (P.shows port.new) }
+    ensures with { GoesWith hart.new (P.shows port.new) }
+    ensures goes { GoesBy (full_steps hart.old.book.size + 769) IsOfNeeds (P.shows port.old) (P.shows port.new) }
 {
-    trap(&mut hart.arch, ILLEGAL_INSTRUCTION, u64::from(word));
+    match decode(word) {
+        Some(instr) => execute(hart, port, &instr),
+        None => {
+            let tval = u64::from(word);
+            trap(&mut hart.arch, ILLEGAL_INSTRUCTION, tval);
+            NeedEnd::Done(Answer::Fault {
+                cause: ILLEGAL_INSTRUCTION,
+                tval,
+            })
+        }
+    }
 }
