@@ -6,3 +6,4 @@ mod Rounds
 mod Starts
 mod Looks
 mod Counted
+mod First
