@@ -9,3 +9,4 @@ mod Counted
 mod Pages
 mod Coded
 mod Executed
+mod First

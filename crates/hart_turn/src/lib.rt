@@ -16,3 +16,6 @@ mod starting;
 
 pub use ends::{Anew, TurnEnd, Wait4};
 pub use hart::{Call, Claim, Hart};
+
+#[cfg(test)]
+mod tests;
