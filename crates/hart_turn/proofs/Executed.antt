@@ -1,11 +1,13 @@
 -- An instruction that was executed, given up, or asks for a fence: what goes with its hart behind it.
 use Rattle.std.proofs.Common.{◌≡◌, ◌≢◌, ◌⊎◌, inl, inr, ℕ, ◌+◌, ◌<◌, Bool, true, false, ◌∷◌, None, Some, refl, sym, ap, subst, ◌∙◌}
 use Rattle.std.specs.Prelude.{◌==◌, ◌&&◌}
+use Rattle.rv64_decode.specs.Encoding.{Decodes}
 use Rattle.rv64_decode.specs.declared.instruction.Instr.{Instr}
 use Rattle.rv64_priv.specs.Csr.{regime}
 use Rattle.rv64_priv.specs.State.{Arch}
 use Rattle.rv64_priv.specs.Trap.{trapped}
 use Rattle.rv64_priv.specs.declared.state.Regime.{Regime}
+use Rattle.rv64_exec.specs.Code.{Code}
 use Rattle.rv64_exec.specs.Finish.{after}
 use Rattle.rv64_exec.specs.Plan.{need_of}
 use Rattle.rv64_exec.specs.Widths.{IsWellFormedNeed}
@@ -24,6 +26,7 @@ use Rattle.guest_ram.specs.Ports.{GoesBy, Shown, layout_of}
 use Rattle.guest_ram.proofs.Moves.{actor_goes, stands_goes}
 use Rattle.tlb_entry.specs.declared.books.Book.{Book}
 use Rattle.guest_access.specs.Reaching.{KnowsFills}
+use Rattle.word_cache.specs.Cached.{Entries}
 use Rattle.work_queue.proofs.Ringed.{IsNoPlace, sent_goes, served_goes}
 use Rattle.hart_calls.specs.declared.spans.Span.{Span}
 use Rattle.need_serving.specs.declared.ends.NeedEnd.{NeedEnd}
@@ -33,7 +36,7 @@ use Rattle.need_serving.specs.Serving.{IsOfNeeds, IsServed}
 use Rattle.turn_pieces.specs.Draws.{may_draw}
 use Rattle.turn_pieces.specs.Grows.{Ends, Part, does, stays}
 use Rattle.turn_pieces.specs.Log.{Log, did}
-use Rattle.turn_pieces.proofs.Writers.{ends_then, part_nowhere}
+use Rattle.turn_pieces.proofs.Writers.{ends_then, part_nowhere, part_then}
 use Rattle.tlb_lock.specs.declared.lock.Busy.{Busy}
 use Rattle.access_pieces.specs.Serving.{MayGiveUp, Settles, Wants}
 use Rattle.access_pieces.proofs.GivenUp.{give_ups_stand}
@@ -48,7 +51,7 @@ use Rattle.hart_turn.specs.declared.hart.Call.{Call}
 use Rattle.hart_turn.specs.declared.hart.Hart.{Hart}
 use Rattle.hart_turn.specs.Harts.{GoesWith, IsCallOf, counted, is_made, own_of}
 use Rattle.hart_turn.specs.Logs.{AtCount, AtEnd}
-use Rattle.hart_turn.specs.Executing.{AfterNeed, AtExecute, ExecutesOn, after_end, after_unknown}
+use Rattle.hart_turn.specs.Executing.{AfterNeed, AtExecute, ExecutesOn, HasExecuted, after_end, after_unknown, served, trapped_on, with_decoded}
 use Rattle.hart_turn.proofs.Aside.{stand_as}
 use Rattle.hart_turn.proofs.Looks.{call_none, with_arch}
 
@@ -289,6 +292,61 @@ module _ (h : Hart) (p : Shown) (word : ℕ) (can : GoesWith h p) (free : h.call
         };
       }
 
--- of this word
-pub executed_by : (end : NeedEnd) (i : Instr) (h k : Hart) (p q : Shown) (word : ℕ) → ExecutesOn end i h k p q → Part (AtExecute h (record { word = word; instr = Some i }) p) (AfterNeed end (record { word = word; instr = Some i }) k q)
-executed_by end i h k p q word works = works word
+-- other decoded words change nothing else
+module _ (h : Hart) (decoded : Entries) (p : Shown) where
+  pub with_words : GoesWith h p → GoesWith (with_decoded decoded h) p
+  with_words can = record {
+    beside = can.beside;
+    fills = can.fills;
+    number = can.number;
+    runs = can.runs;
+    free = can.free;
+    paid = can.paid;
+    stands = record { phase_is = can.stands.phase_is; claim_is = can.stands.claim_is; quantum = can.stands.quantum };
+    sent = can.sent;
+    served = can.served;
+    below = can.below;
+    call = can.call;
+    stopped = can.stopped;
+  }
+
+  words_work : (code : Code) → Part (AtExecute h code p) (AtExecute (with_decoded decoded h) code p)
+  words_work code u a l x = record { late = l; grows = stays; holds = record { limit_is = x.limit_is; rests = x.rests; not_due = x.not_due } }
+
+  pub words_then : (code : Code) (Q : Setup → ℕ → Log → Type 0) → Part (AtExecute (with_decoded decoded h) code p) Q → Part (AtExecute h code p) Q
+  words_then code Q part = part_then (AtExecute h code p) (AtExecute (with_decoded decoded h) code p) Q (words_work code) part
+
+kept_words : (i : Instr) (b : Book) (end : NeedEnd) (z : Hart) → (after_end i b end z).decoded ≡ z.decoded
+kept_words i b (ends.Done answer) z = refl
+kept_words i b ends.Stopped z = refl
+kept_words i b (ends.Fence harts span) z = refl
+kept_words i b (ends.Lost word seen found) z = refl
+kept_words i b ends.NeedsSection z = refl
+kept_words i b (ends.Busy busy) z = refl
+
+-- of this word, which decodes so
+executed_at : (h k : Hart) (decoded : Entries) (p q : Shown) (word : ℕ) (i : Instr) (end : NeedEnd) → Decodes word (Some i) → k ≡ after_end i k.book end (with_decoded decoded h) → IsServed p q h.book k.book h.arch (is_made h.claim) (need_of h.arch i) end
+    → ExecutesOn end i (with_decoded decoded h) k p q → HasExecuted word end h k p q
+executed_at h k decoded p q word i end decodes left by works = record {
+  instr = Some i;
+  decodes = decodes;
+  done = served i (left ∙ ap (λ (d : Entries). after_end i k.book end (with_decoded d h)) (sym (ap (λ (z : Hart). z.decoded) left ∙ kept_words i k.book end (with_decoded decoded h)))) by;
+  part = words_then h decoded p (record { word = word; instr = Some i }) (AfterNeed end (record { word = word; instr = Some i }) k q) (works word);
+}
+
+pub executed_known : (h h' k : Hart) (p q : Shown) (word : ℕ) (i : Instr) (end : NeedEnd) → h' ≡ with_decoded h'.decoded h → Decodes word (Some i) → k ≡ after_end i k.book end h' → IsServed p q h'.book k.book h'.arch (is_made h'.claim) (need_of h'.arch i) end
+    → ExecutesOn end i h' k p q → HasExecuted word end h k p q
+executed_known h h' k p q word i end is decodes left by works =
+    executed_at h k h'.decoded p q word i end decodes (subst (λ (z : Hart). k ≡ after_end i k.book end z) is left) (subst (λ (z : Hart). IsServed p q z.book k.book z.arch (is_made z.claim) (need_of z.arch i) end) is by) (subst (λ (z : Hart). ExecutesOn end i z k p q) is works)
+
+-- and of one that is no instruction
+pub refused : (h h' : Hart) (p : Shown) (word : ℕ) → h' ≡ with_decoded h'.decoded h → Decodes word None → GoesWith h p → h.call ≡ Call.Nothing → MayTouch (layout_of p) p.own.actor p.own.steps
+    → (is_made h.claim ≡ true → IsInSection (layout_of p) p.own.actor p.own.steps) → may_draw p.own.steps ≡ true → h.runs ≡ true → HasExecuted word (ends.Done (Answer.Fault 2 word)) h (after_unknown word h') p p
+refused h h' p word is decodes can free touch alone draws running =
+    let k = with_decoded h'.decoded h in
+    subst (λ (z : Hart). HasExecuted word (ends.Done (Answer.Fault 2 word)) h (after_unknown word z) p p) (sym is) (record {
+      instr = None;
+      decodes = decodes;
+      done = trapped_on refl refl;
+      part = words_then h h'.decoded p (record { word = word; instr = None }) (AfterNeed (ends.Done (Answer.Fault 2 word)) (record { word = word; instr = None }) (after_unknown word k) p) (unknown_works k p word (with_words h h'.decoded p can) free touch alone draws running);
+    })

@@ -14,6 +14,7 @@ use Rattle.tlb_entry.specs.declared.books.Book.{Book}
 use Rattle.need_serving.specs.Serving.{IsServed}
 use Rattle.need_serving.specs.declared.ends.NeedEnd.{NeedEnd}
 use Rattle.need_serving.specs.declared.ends.NeedEnd.TheVariants as ends
+use Rattle.word_cache.specs.Cached.{Entries}
 use Rattle.code_fetch.specs.declared.fetching.Fetched.{Fetched}
 use Rattle.code_fetch.specs.declared.fetching.Fetched.TheVariants as comes
 use Rattle.turn_pieces.specs.Grows.{Part}
@@ -65,10 +66,14 @@ AfterNeed end code k q u a l = AtEnd k q u a l
 abbrev pub ExecutesOn : NeedEnd → Instr → (h k : Hart) (p q : Shown) → Type 0
 ExecutesOn end i h k p q = (word : ℕ) → Part (AtExecute h (record { word = word; instr = Some i }) p) (AfterNeed end (record { word = word; instr = Some i }) k q)
 
+-- its decoded words are these
+abbrev pub with_decoded : Entries → Hart → Hart
+with_decoded decoded h = record h { decoded = decoded }
+
 -- what was done for a word: a word that is no instruction traps, and any other serves what it needs
 pub data HasDone (word : ℕ) (h k : Hart) (p q : Shown) : Option Instr → NeedEnd → Type 0 where
-  trapped_on : k ≡ after_unknown word h → q ≡ p → HasDone word h k p q None (ends.Done (Answer.Fault 2 word))
-  served : {end : NeedEnd} (i : Instr) → k ≡ after_end i k.book end h → IsServed p q h.book k.book h.arch (is_made h.claim) (need_of h.arch i) end → HasDone word h k p q (Some i) end
+  trapped_on : k ≡ after_unknown word (with_decoded k.decoded h) → q ≡ p → HasDone word h k p q None (ends.Done (Answer.Fault 2 word))
+  served : {end : NeedEnd} (i : Instr) → k ≡ after_end i k.book end (with_decoded k.decoded h) → IsServed p q h.book k.book h.arch (is_made h.claim) (need_of h.arch i) end → HasDone word h k p q (Some i) end
 
 -- the word decodes so, that was done, and its log goes on
 pub record HasExecuted (word : ℕ) (end : NeedEnd) (h k : Hart) (p q : Shown) : Type 0 where

@@ -10,6 +10,7 @@ use Rattle.machine_model.specs.Own.{Own}
 use Rattle.machine_model.specs.State.{reset}
 use Rattle.guest_ram.specs.Ports.{Shown, layout_of}
 use Rattle.kept_fills.specs.Beside.{IsBeside}
+use Rattle.word_cache.specs.Cached.{first_entries}
 use Rattle.work_queue.specs.declared.rings.Sent.{Sent}
 use Rattle.work_queue.specs.Rings.{IsSentBy, IsServedBy}
 use Rattle.guest_access.specs.Reaching.{KnowsFills}
@@ -105,4 +106,5 @@ first_hart number start limit = record {
   book = record { hart = number; size = 64; used = 0; large = false };
   sent = record { next = replicate 16 0 };
   served = record { next = replicate 17 0 };
+  decoded = first_entries;
 }

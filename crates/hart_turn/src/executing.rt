@@ -6,18 +6,19 @@ ghost use Rattle.step_laws.specs.Sections.{IsInSection, MayTouch};
 ghost use Rattle.guest_ram.specs.Ports.{layout_of, GoesBy};
 ghost use Rattle.flush.specs.Flushed.{full_steps};
 ghost use Rattle.turn_pieces.specs.Draws.{may_draw};
+ghost use Rattle.word_cache.specs.Cached.{DecodesOnly};
 ghost use Rattle.need_serving.specs.Serving.{IsOfNeeds, IsServed};
 ghost use Rattle.hart_turn.specs.declared.hart.Call.{Call as TheCall};
 ghost use Rattle.hart_turn.specs.Harts.{GoesWith, is_made};
-ghost use Rattle.hart_turn.specs.Executing.{ExecutesOn, HasExecuted, after_end};
+ghost use Rattle.hart_turn.specs.Executing.{ExecutesOn, HasExecuted, after_end, with_decoded};
 
 use crate::hart::Hart;
 use crate::planning::plan_of;
 use guest_ram::Port;
 use need_serving::{NeedEnd, serve_need};
-use rv64_decode::{Instr, decode};
+use rv64_decode::Instr;
 use rv64_exec::{Answer, finish};
-use rv64_priv::trap;
+use rv64_priv::{pc_of, trap};
 
 /// The cause of an illegal instruction.
 const ILLEGAL_INSTRUCTION: u64 = 2;
@@ -58,6 +59,14 @@ pub(crate) fn execute<P: Port>(hart: &mut Hart, port: &mut P, instr: &Instr) -> 
     }
 }
 
+/// The instruction of the word that a hart has fetched; `None` where it is none.
+fn decode_next(hart: &mut Hart, word: u32) -> Option<Instr>
+    ensures decodes { DecodesOnly word result }
+    ensures hart { hart.new ≡ with_decoded hart.new.decoded hart.old }
+{
+    hart.decoded.find(word, pc_of(&hart.arch))
+}
+
 /// Executes the word that a hart has fetched. One that is no instruction traps.
 pub(crate) fn execute_word<P: Port>(hart: &mut Hart, port: &mut P, word: u32) -> NeedEnd
     requires with { GoesWith hart.old (P.shows port.old) }
@@ -71,7 +80,7 @@ pub(crate) fn execute_word<P: Port>(hart: &mut Hart, port: &mut P, word: u32) ->
     ensures with { GoesWith hart.new (P.shows port.new) }
     ensures goes { GoesBy (full_steps hart.old.book.size + 769) IsOfNeeds (P.shows port.old) (P.shows port.new) }
 {
-    match decode(word) {
+    match decode_next(hart, word) {
         Some(instr) => execute(hart, port, &instr),
         None => {
             let tval = u64::from(word);

@@ -8,6 +8,7 @@ use hart_calls::Span;
 use rv64_exec::Arch;
 use sbi_calls::Fence;
 use tlb_entry::Book;
+use word_cache::WordCache;
 use work_queue::{Sent, Served};
 
 /// Whether a hart wants the section, in which it is alone, and whether it has claimed it.
@@ -45,6 +46,7 @@ pub struct Hart {
     pub(crate) book: Book,
     pub(crate) sent: Sent,
     pub(crate) served: Served,
+    pub(crate) decoded: WordCache,
 }
 
 impl Claim {
@@ -110,6 +112,7 @@ impl Hart {
             book: Book::new(number),
             sent: Sent { next: [0; 16] },
             served: Served { next: [0; 17] },
+            decoded: WordCache::new(),
         }
     }
 
