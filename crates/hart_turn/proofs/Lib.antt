@@ -6,3 +6,6 @@ mod Rounds
 mod Starts
 mod Looks
 mod Counted
+mod Calls
+mod Fenced
+mod Fences

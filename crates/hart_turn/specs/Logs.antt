@@ -16,7 +16,7 @@ use Rattle.sbi_calls.specs.Fences.{GoesWithFence}
 use Rattle.turn_pieces.specs.Grows.{Ends, LooksAtStop, Part}
 use Rattle.turn_pieces.specs.Log.{Log, events_of, made, steps_of}
 use Rattle.turn_pieces.specs.Owed.{nothing, owed}
-use Rattle.access_pieces.specs.Serving.{Settles}
+use Rattle.access_pieces.specs.Serving.{Rests, Settles}
 use Rattle.table_pieces.specs.Flushing.{IsNotDue}
 use Rattle.fence_pieces.specs.Behind.{IsBehind}
 use Rattle.fence_pieces.specs.Owning.{AreFlushedUpTo}
@@ -101,3 +101,15 @@ pub record AtCount (h : Hart) (p : Shown) (u : Setup) (a : ℕ) (l : Log) : Type
   pub settles : Settles nobody (own_of h None) p h.book (regime h.arch) u a l
   pub counts : passes counts (last_of a (events_of l)) ≡ true
   pub free : h.call ≡ Call.Nothing
+
+-- The hart holds the word of a call, of which nothing is done yet, and its log's last step owes no event
+pub record AtCall (h : Hart) (p : Shown) (u : Setup) (a : ℕ) (l : Log) : Type 0 where
+  pub limit_is : u.limit ≡ h.limit
+  pub code : Code
+  pub rests : Rests nobody (own_of h (Some code)) p h.book (regime h.arch) u a l
+  pub not_due : IsNotDue (own_of h (Some code)) u a l
+  pub need_is : need_held h.arch (Some code) ≡ Need.Sbi
+
+-- so that such a log is one of the other hart at work
+abbrev pub BeginsCall : (h k : Hart) → Shown → Type 0
+BeginsCall h k p = (u : Setup) (a : ℕ) (l : Log) → AtCall h p u a l → AtWork k p u a l
