@@ -1,2 +1,2 @@
 pub mod Regimes
-mod Fetching
+pub mod Fetching

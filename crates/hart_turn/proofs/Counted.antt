@@ -1,6 +1,5 @@
 -- An instruction that is counted, and the stop at the limit.
-use Rattle.std.proofs.Common.{◌≡◌, ◌≢◌, ℕ, ◌+◌, ◌<◌, Bool, true, false, sym, ap, subst, ◌∙◌, arith}
-use Rattle.std.specs.Prelude.{◌==◌, ◌&&◌}
+use Rattle.std.proofs.Common.{ne_eqb, ◌≡◌, ◌≢◌, ℕ, ◌+◌, ◌<◌, true, false, sym, ◌∙◌, arith}
 use Rattle.std.proofs.lemmas.Bool.{eq-eqb}
 use Rattle.rv64_priv.specs.Csr.{regime}
 use Rattle.step_laws.specs.declared.steps.WordOp.TheVariants.{Exchange}
@@ -14,7 +13,6 @@ use Rattle.guest_ram.proofs.Moves.{fold_adds}
 use Rattle.guest_devices.specs.Output.{HasSetStop}
 use Rattle.turn_pieces.specs.Grows.{Part, stays}
 use Rattle.turn_pieces.specs.Log.{events_of}
-use Rattle.turn_pieces.proofs.Writers.{not_due}
 use Rattle.signal_pieces.specs.Signalling.{nobody}
 use Rattle.signal_pieces.proofs.Stopping.{limits_stand}
 use Rattle.hart_turn.specs.declared.hart.Hart.{Hart}
@@ -41,7 +39,7 @@ module _ (h : Hart) (p : Shown) (below : h.count < h.limit) (ne : h.count + 1 �
       limit_is = x.limit_is;
       held = None;
       settles = x.settles;
-      not_due = not_due u.limit (events_of l) a (h.count + 1) (subst (λ n. h.count + 1 < n) (sym x.limit_is) (less h.count h.limit below ne));
+      not_due = x.due_is ∙ ne_eqb (h.count + 1) u.limit (λ e. ne (e ∙ x.limit_is));
       call = call_none h.call h.sent h.arch p a l x.free;
     };
   }
@@ -57,7 +55,7 @@ module _ (h : Hart) (p q : Shown) (stands : Reason) (set : HasSetStop (Reason.Li
 
   pub limit_ends : h.count + 1 ≡ h.limit → Part (AtCount (counted h) p) (AtEnd (counted h) q)
   limit_ends at u a l x =
-      let due : is_due u.limit (events_of l) a (h.count + 1) ≡ true = ap (λ (b : Bool). b && (h.count + 1 == u.limit)) x.counts ∙ eq-eqb (h.count + 1) u.limit (at ∙ sym x.limit_is) in
+      let due : is_due u.limit (events_of l) a (h.count + 1) ≡ true = x.due_is ∙ eq-eqb (h.count + 1) u.limit (at ∙ sym x.limit_is) in
       let y = limits_stand stands p q h.book (regime h.arch) set can.beside.hart nobody (own_of (counted h) None) u a l x.settles due in record {
         late = y.late;
         grows = y.grows;

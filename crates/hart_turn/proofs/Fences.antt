@@ -1,6 +1,6 @@
 -- A fence in progress in its hart's log: how it begins there, goes on, and is executed once it is done.
 use Rattle.std.proofs.Common.{◌≡◌, ◌<◌, ℕ, ◌+◌, true, List, [], ◌∷◌, Some, None, refl, sym, ap, subst, ◌∙◌, arith, rules}
-use Rattle.std.specs.Prelude.{IsSome, Option, pos, replicate, slice_index}
+use Rattle.std.specs.Prelude.{◌==◌, ◌&&◌, Bool, IsSome, Option, pos, replicate, slice_index}
 use Rattle.rv64_priv.specs.Csr.{regime}
 use Rattle.rv64_priv.specs.State.{Arch}
 use Rattle.rv64_exec.specs.Code.{Code}
@@ -34,9 +34,9 @@ use Rattle.fence_pieces.proofs.Turning.{turns_are_held, turns_are_made, turns_go
 use Rattle.signal_pieces.specs.Signalling.{nobody}
 use Rattle.hart_turn.specs.declared.hart.Call.{Call}
 use Rattle.hart_turn.specs.declared.hart.Hart.{Hart}
-use Rattle.hart_turn.specs.Fences.{new_fence, succeeded, with_fence}
+use Rattle.hart_turn.specs.Fences.{BeginsCall, new_fence, succeeded, with_fence}
 use Rattle.hart_turn.specs.Harts.{GoesWith, counted, own_of}
-use Rattle.hart_turn.specs.Logs.{AtCount, AtWork, BeginsCall, IsCallIn, IsFenceIn, WorksOn}
+use Rattle.hart_turn.specs.Logs.{AtCount, AtWork, IsCallIn, IsFenceIn, WorksOn}
 use Rattle.hart_turn.proofs.Calls.{call_succeeds}
 use Rattle.hart_turn.proofs.Fenced.{fence_of}
 use Rattle.hart_turn.proofs.Moving.{not_both}
@@ -121,7 +121,7 @@ module _ (n : ℕ) (h : Hart) (p q : Shown) (harts : ℕ) (span : Span) (fence :
               holds = record {
                 limit_is = x.ends.limit_is;
                 settles = subst (λ (o : Own). Settles nobody o q book (regime h.arch) u a (did (executed a) ∷ y.late)) (succeeds h x.ends.held fenced_in.need_is) k.settles;
-                counts = k.counts;
+                due_is = ap (λ (b : Bool). b && (h.count + 1 == u.limit)) k.counts;
                 free = refl;
               };
             }
@@ -165,16 +165,16 @@ begins_at harts span sent p = record {
 
 module _ (h : Hart) (harts : ℕ) (span : Span) (p : Shown) where
   pub fence_begins : BeginsCall h (with_fence harts span new_fence h) p
-  fence_begins u a l x = record {
+  fence_begins code asks u a l x = record {
     ends = record {
       limit_is = x.limit_is;
-      held = Some x.code;
+      held = Some code;
       settles = record { tells = x.rests.tells; settled = x.rests.settled };
       not_due = x.not_due;
       call = record {
-        code = x.code;
+        code = code;
         holds = refl;
-        need_is = x.need_is;
+        need_is = asks;
         base = l;
         behind = quiet_behind a [] l;
         goes = subst (λ (steps : List Step). GoesWithFence harts span h.sent new_fence steps p) (sym x.rests.tells.tells.stands.is) (begins_at harts span h.sent p);

@@ -6,6 +6,9 @@ mod Rounds
 mod Starts
 mod Looks
 mod Counted
+mod Pages
+mod Coded
+mod Executed
 mod Calls
 mod Fenced
 mod Fences

@@ -1,9 +1,13 @@
--- What the parts of a turn do at a remote fence (RISC-V SBI, "RFENCE Extension"), step by step.
+-- What the parts of a turn do at a remote fence (RISC-V SBI, "RFENCE Extension"), step by step, and how one begins in a hart's log.
 use Rattle.std.specs.Prelude.{◌≡◌, ℕ, true, List, pos, replicate, slice_index}
 use Rattle.rv64_priv.specs.State.{Arch}
+use Rattle.rv64_exec.specs.Code.{Code}
 use Rattle.rv64_exec.specs.declared.needs.Answer.{Answer}
+use Rattle.rv64_exec.specs.declared.needs.Need.{Need}
 use Rattle.rv64_exec.specs.Finish.{after_sbi}
+use Rattle.rv64_exec.specs.Plan.{need_of_code}
 use Rattle.step_laws.specs.declared.steps.Step.{Step}
+use Rattle.machine_model.specs.State.{Setup}
 use Rattle.guest_ram.specs.declared.port.Seen.{Seen}
 use Rattle.guest_ram.specs.Ports.{Shown}
 use Rattle.tlb_lock.specs.declared.lock.Busy.{Busy}
@@ -11,9 +15,12 @@ use Rattle.hart_calls.specs.declared.spans.Span.{Span}
 use Rattle.sbi_calls.specs.declared.spans.Fence.{Fence}
 use Rattle.sbi_calls.specs.Fences.{GoesWithFence, HasBeenHeld, HasFlushedOwn, HasFoundOpen, IsAnsweredAt, IsTarget}
 use Rattle.sbi_calls.specs.Spans.{is_named, pieces_of}
+use Rattle.turn_pieces.specs.Log.{Log}
 use Rattle.hart_turn.specs.declared.ends.Wait4.{Wait4}
 use Rattle.hart_turn.specs.declared.hart.Call.{Call}
 use Rattle.hart_turn.specs.declared.hart.Hart.{Hart}
+use Rattle.hart_turn.specs.Executing.{AtExecute}
+use Rattle.hart_turn.specs.Logs.{AtWork}
 
 -- nothing of it is posted, answered or flushed
 abbrev pub new_fence : Fence
@@ -47,3 +54,7 @@ pub record HasFenced (harts : ℕ) (span : Span) (fence : Fence) (h k : Hart) (p
   pub flushed : HasFlushedOwn span (slice_index fence.acked p.own.actor) to p q h.book k.book
   pub own_done : is_named harts p.own.actor ≡ true → to ≡ pieces_of span
   pub others_done : (base : List Step) → GoesWithFence harts span h.sent fence base p → (t : ℕ) → IsTarget harts q t → IsAnsweredAt span t base q
+
+-- each log of the one hart that holds a call's word, and may execute it, is one of the other at work
+abbrev pub BeginsCall : (h k : Hart) → Shown → Type 0
+BeginsCall h k p = (code : Code) → need_of_code h.arch code ≡ Need.Sbi → (u : Setup) (a : ℕ) (l : Log) → AtExecute h code p u a l → AtWork k p u a l

@@ -2,3 +2,4 @@ pub mod Fences
 pub mod Harts
 pub mod Logs
 pub mod Parts
+pub mod Executing

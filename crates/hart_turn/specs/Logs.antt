@@ -1,12 +1,12 @@
 -- How a hart goes with its log of steps and events, between the parts of its turns. Lists are newest first.
-use Rattle.std.specs.Prelude.{◌≡◌, ℕ, Bool, true, false, ◌∷◌, Some, None, Option, slice_index}
+use Rattle.std.specs.Prelude.{◌≡◌, ℕ, ◌==◌, Bool, true, false, ◌∷◌, Some, None, Option, slice_index}
 use Rattle.rv64_priv.specs.Csr.{regime}
 use Rattle.rv64_priv.specs.State.{Arch}
 use Rattle.rv64_exec.specs.Code.{Code}
 use Rattle.rv64_exec.specs.declared.needs.Need.{Need}
 use Rattle.step_laws.specs.declared.steps.Step.{Step}
 use Rattle.machine_model.specs.State.{Setup}
-use Rattle.machine_model.specs.Run.{counts, last_of, passes}
+use Rattle.machine_model.specs.Run.{is_due}
 use Rattle.machine_model.specs.Walks.{need_held}
 use Rattle.guest_ram.specs.Ports.{Shown}
 use Rattle.work_queue.specs.declared.rings.Sent.{Sent}
@@ -16,7 +16,7 @@ use Rattle.sbi_calls.specs.Fences.{GoesWithFence}
 use Rattle.turn_pieces.specs.Grows.{Ends, LooksAtStop, Part}
 use Rattle.turn_pieces.specs.Log.{Log, events_of, made, steps_of}
 use Rattle.turn_pieces.specs.Owed.{nothing, owed}
-use Rattle.access_pieces.specs.Serving.{Rests, Settles}
+use Rattle.access_pieces.specs.Serving.{Settles}
 use Rattle.table_pieces.specs.Flushing.{IsNotDue}
 use Rattle.fence_pieces.specs.Behind.{IsBehind}
 use Rattle.fence_pieces.specs.Owning.{AreFlushedUpTo}
@@ -94,22 +94,10 @@ IsAfterLook false k q u a l = AtFetch k q u a l
 abbrev pub LooksOn : (taken : Bool) (h k : Hart) (p q : Shown) → Type 0
 LooksOn taken h k p q = Part (AtWork h p) (IsAfterLook taken k q)
 
--- Behind an instruction that was executed: the log tells of the hart and its port as in the end, and the hart's last event counts it. So the hart
--- may be to stop at its limit
+-- Behind an instruction that was counted: the log tells of the hart and its port as in the end, but the hart is to stop where that brought its count
+-- to the limit
 pub record AtCount (h : Hart) (p : Shown) (u : Setup) (a : ℕ) (l : Log) : Type 0 where
   pub limit_is : u.limit ≡ h.limit
   pub settles : Settles nobody (own_of h None) p h.book (regime h.arch) u a l
-  pub counts : passes counts (last_of a (events_of l)) ≡ true
+  pub due_is : is_due u.limit (events_of l) a h.count ≡ (h.count == u.limit)
   pub free : h.call ≡ Call.Nothing
-
--- The hart holds the word of a call, of which nothing is done yet, and its log's last step owes no event
-pub record AtCall (h : Hart) (p : Shown) (u : Setup) (a : ℕ) (l : Log) : Type 0 where
-  pub limit_is : u.limit ≡ h.limit
-  pub code : Code
-  pub rests : Rests nobody (own_of h (Some code)) p h.book (regime h.arch) u a l
-  pub not_due : IsNotDue (own_of h (Some code)) u a l
-  pub need_is : need_held h.arch (Some code) ≡ Need.Sbi
-
--- so that such a log is one of the other hart at work
-abbrev pub BeginsCall : (h k : Hart) → Shown → Type 0
-BeginsCall h k p = (u : Setup) (a : ℕ) (l : Log) → AtCall h p u a l → AtWork k p u a l

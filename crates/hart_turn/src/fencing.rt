@@ -7,9 +7,9 @@ ghost use Rattle.hart_calls.specs.declared.asking.Asked.{Asked};
 ghost use Rattle.sbi_calls.specs.Fences.{IsOfFence};
 ghost use Rattle.turn_pieces.specs.Grows.{Part};
 ghost use Rattle.hart_turn.specs.declared.hart.Call.{Call as TheCall};
-ghost use Rattle.hart_turn.specs.Fences.{HasFenced, HasFenceToWait, new_fence, succeeded, with_fence};
+ghost use Rattle.hart_turn.specs.Fences.{BeginsCall, HasFenced, HasFenceToWait, new_fence, succeeded, with_fence};
 ghost use Rattle.hart_turn.specs.Harts.{GoesWith, counted};
-ghost use Rattle.hart_turn.specs.Logs.{AtCount, AtWork, BeginsCall, WorksOn};
+ghost use Rattle.hart_turn.specs.Logs.{AtCount, AtWork, WorksOn};
 
 use crate::ends::Wait4;
 use crate::hart::{Call, Hart};

@@ -4,10 +4,13 @@
 mod beginning;
 mod counting;
 mod ends;
+mod executing;
 mod fencing;
+mod fetching;
 mod hart;
 mod interrupts;
 mod leaving;
+mod planning;
 mod requests;
 mod sections;
 mod starting;

@@ -3,4 +3,4 @@ mod Unwaited
 mod Alone
 mod Flushes
 mod Calls
-mod Served
+pub mod Served
