@@ -9,6 +9,7 @@ mod Counted
 mod Pages
 mod Coded
 mod Executed
+mod Asked
 mod Calls
 mod Fenced
 mod Fences
