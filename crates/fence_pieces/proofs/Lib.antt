@@ -2,5 +2,5 @@ pub mod Behind
 mod Asking
 pub mod Quiet
 mod Owning
-mod Turning
-mod Ending
+pub mod Turning
+pub mod Ending

@@ -10,3 +10,7 @@ mod Pages
 mod Coded
 mod Executed
 mod First
+mod Asked
+mod Calls
+mod Fenced
+mod Fences

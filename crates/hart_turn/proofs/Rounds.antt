@@ -67,7 +67,7 @@ has_fills b r p k = (r, k.items, k.fills, k.goes)
 all_knows : (r : Regime) (p q : Shown) (b c : Book) (added : List Step) → q.own.steps ≡ added ++ p.own.steps → KnowsFills b r p → HasFlushedAll p q b c → KnowsFills c r q
 all_knows r p q b c added steps k f = record { items = behind_flush Full added k.items; fills = []; goes = f.goes added r r k.items k.fills steps k.goes }
 
-flushed_knows : (n : ℕ) (r : Regime) (p q : Shown) (b c : Book) (request : Request) → KnowsFills b r p → GoesBy n IsOfTable p q → HasFlushedFor request p q b c → KnowsFills c r q
+pub flushed_knows : (n : ℕ) (r : Regime) (p q : Shown) (b c : Book) (request : Request) → KnowsFills b r p → GoesBy n IsOfTable p q → HasFlushedFor request p q b c → KnowsFills c r q
 flushed_knows n r p q b c FlushAll k goes f = all_knows r p q b c goes.added (ap (λ (x : Shown). x.own.steps) goes.grown) k f
 flushed_knows n r p q b c (FlushPages page count) k goes f = by_large b.large f
   where

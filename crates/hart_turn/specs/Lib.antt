@@ -1,3 +1,4 @@
+pub mod Fences
 pub mod Harts
 pub mod Logs
 pub mod Parts

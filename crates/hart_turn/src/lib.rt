@@ -1,10 +1,11 @@
-//! The parts of a hart's turn: how it begins, goes in or alone, serves requests, starts, takes interrupts, and leaves.
+//! The parts of a hart's turn: how it begins, goes in or alone, serves requests, goes on with a fence, starts, takes interrupts, and leaves.
 #![tactic(auto)]
 
 mod beginning;
 mod counting;
 mod ends;
 mod executing;
+mod fencing;
 mod fetching;
 mod hart;
 mod interrupts;
