@@ -16,6 +16,7 @@ mod sections;
 mod starting;
 
 pub use ends::{Anew, TurnEnd, Wait4};
+pub use guest_boot::boot;
 pub use hart::{Call, Claim, Hart};
 
 #[cfg(test)]
