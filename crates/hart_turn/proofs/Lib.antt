@@ -9,6 +9,8 @@ mod Counted
 mod Pages
 mod Coded
 mod Executed
+mod Draws
+mod Instructed
 mod First
 mod Asked
 mod Calls

@@ -75,6 +75,12 @@ pub data HasDone (word : ℕ) (h k : Hart) (p q : Shown) : Option Instr → Need
   trapped_on : k ≡ after_unknown word (with_decoded k.decoded h) → q ≡ p → HasDone word h k p q None (ends.Done (Answer.Fault 2 word))
   served : {end : NeedEnd} (i : Instr) → k ≡ after_end i k.book end (with_decoded k.decoded h) → IsServed p q h.book k.book h.arch (is_made h.claim) (need_of h.arch i) end → HasDone word h k p q (Some i) end
 
+-- the word decodes so, and each log in which the hart holds it goes on to one at the end of its work
+pub record HasEndedWord (word : ℕ) (h k : Hart) (p q : Shown) : Type 0 where
+  pub instr : Option Instr
+  pub decodes : Decodes word instr
+  pub part : Part (AtExecute h (record { word = word; instr = instr }) p) (AtEnd k q)
+
 -- the word decodes so, that was done, and its log goes on
 pub record HasExecuted (word : ℕ) (end : NeedEnd) (h k : Hart) (p q : Shown) : Type 0 where
   pub instr : Option Instr

@@ -83,6 +83,10 @@ gone_in h = record h { inside = true; quantum = 64 }
 abbrev pub with_claim : Claim → Hart → Hart
 with_claim claim h = record h { claim = claim }
 
+-- it wants the section, where it hasn't claimed it
+abbrev pub wanting : Hart → Hart
+wanting h = record h { claim = if is_made h.claim then h.claim else Claim.Wanted }
+
 -- it has ended an instruction more
 abbrev pub counted : Hart → Hart
 counted h = record h { count = h.count + 1 }

@@ -37,6 +37,7 @@ pub(crate) fn execute<P: Port>(hart: &mut Hart, port: &mut P, instr: &Instr) -> 
     ensures served { IsServed (P.shows port.old) (P.shows port.new) hart.old.book hart.new.book hart.old.arch (is_made hart.old.claim) (need_of hart.old.arch instr.now) result }
     ensures hart { hart.new ≡ after_end instr.now hart.new.book result hart.old }
     ensures with { GoesWith hart.new (P.shows port.new) }
+    ensures below { hart.new.count < hart.new.limit }
     ensures part { ExecutesOn result instr.now hart.old hart.new (P.shows port.old) (P.shows port.new) }
     ensures goes { GoesBy (full_steps hart.old.book.size + 769) IsOfNeeds (P.shows port.old) (P.shows port.new) }
 {
@@ -78,6 +79,7 @@ pub(crate) fn execute_word<P: Port>(hart: &mut Hart, port: &mut P, word: u32) ->
     requires draws { may_draw (P.shows port.old).own.steps ≡ true }
     ensures executed { HasExecuted word result hart.old hart.new (P.shows port.old) (P.shows port.new) }
     ensures with { GoesWith hart.new (P.shows port.new) }
+    ensures below { hart.new.count < hart.new.limit }
     ensures goes { GoesBy (full_steps hart.old.book.size + 769) IsOfNeeds (P.shows port.old) (P.shows port.new) }
 {
     match decode_next(hart, word) {

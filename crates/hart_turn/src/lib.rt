@@ -8,6 +8,7 @@ mod executing;
 mod fencing;
 mod fetching;
 mod hart;
+mod instructing;
 mod interrupts;
 mod leaving;
 mod planning;

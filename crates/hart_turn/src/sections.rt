@@ -7,7 +7,7 @@ ghost use Rattle.exclusive.specs.Claims.{HasClaimed, HasFoundAllOut, HasFoundCla
 ghost use Rattle.exclusive.specs.Entries.{HasEntered, HasTurnedBack};
 ghost use Rattle.signal_pieces.specs.Signalling.{IsOfSides};
 ghost use Rattle.hart_turn.specs.declared.hart.Claim.{Claim as TheClaim};
-ghost use Rattle.hart_turn.specs.Harts.{GoesWith, gone_in, is_made, with_claim};
+ghost use Rattle.hart_turn.specs.Harts.{GoesWith, gone_in, is_made, wanting, with_claim};
 ghost use Rattle.hart_turn.specs.Logs.{WorksOn};
 ghost use Rattle.hart_turn.specs.Parts.{HasGoneAlone, HasSteppedOut, HasToWait};
 
@@ -120,10 +120,12 @@ pub(crate) fn go_alone<P: Port>(hart: &mut Hart, port: &mut P) -> Result<(), See
     }
 }
 
-/// Says that the hart wants the section, in which its instruction is to be made anew.
+/// Says that the hart wants the section, in which its instruction is to be made anew. One that has claimed it keeps that.
 pub(crate) fn want(hart: &mut Hart)
-    requires unclaimed { is_made hart.old.claim ≡ false }
-    ensures { hart.new ≡ with_claim TheClaim.Wanted hart.old }
+    ensures { hart.new ≡ wanting hart.old }
 {
+    if hart.claim.is_made() {
+        return;
+    }
     hart.claim = Claim::Wanted;
 }
