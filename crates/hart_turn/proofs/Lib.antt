@@ -11,6 +11,7 @@ mod Coded
 mod Executed
 mod Draws
 mod Instructed
+mod Turned
 mod First
 mod Asked
 mod Calls

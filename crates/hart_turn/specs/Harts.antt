@@ -12,6 +12,8 @@ use Rattle.guest_ram.specs.Ports.{Shown, layout_of}
 use Rattle.kept_fills.specs.Beside.{IsBeside}
 use Rattle.word_cache.specs.Cached.{first_entries}
 use Rattle.work_queue.specs.declared.rings.Sent.{Sent}
+use Rattle.work_queue.specs.declared.rings.Served.{Served}
+use Rattle.tlb_entry.specs.declared.books.Book.{Book}
 use Rattle.work_queue.specs.Rings.{IsSentBy, IsServedBy}
 use Rattle.guest_access.specs.Reaching.{KnowsFills}
 use Rattle.hart_calls.specs.Asked.{AreHarts, IsAsked}
@@ -86,6 +88,15 @@ with_claim claim h = record h { claim = claim }
 -- it wants the section, where it hasn't claimed it
 abbrev pub wanting : Hart → Hart
 wanting h = record h { claim = if is_made h.claim then h.claim else Claim.Wanted }
+
+-- it has served a round of requests
+abbrev pub with_round : Book → Served → Hart → Hart
+with_round book served h = record h { book = book; served = served }
+
+-- between turns it is inside only where it runs and has no call in progress
+pub record IsSettled (h : Hart) (p : Shown) : Type 0 where
+  pub with : GoesWith h p
+  pub works : h.inside ≡ true → (h.runs ≡ true) × (h.call ≡ Call.Nothing)
 
 -- it has ended an instruction more
 abbrev pub counted : Hart → Hart

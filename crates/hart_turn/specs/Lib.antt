@@ -3,3 +3,4 @@ pub mod Harts
 pub mod Logs
 pub mod Parts
 pub mod Executing
+pub mod Turning

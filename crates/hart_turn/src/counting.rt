@@ -17,6 +17,7 @@ pub(crate) fn count_up<P: Port>(hart: &mut Hart, port: &mut P)
     requires with { GoesWith hart.old (P.shows port.old) }
     requires below { hart.old.count < hart.old.limit }
     ensures counted { HasCounted hart.old hart.new (P.shows port.old) (P.shows port.new) }
+    ensures still { hart.new ≡ counted hart.old }
     ensures with { GoesWith hart.new (P.shows port.new) }
     ensures part { Part (AtCount (counted hart.old) (P.shows port.old)) (AtEnd hart.new (P.shows port.new)) }
     ensures goes { GoesBy 1 IsOfEnd (P.shows port.old) (P.shows port.new) }

@@ -56,6 +56,8 @@ pub(crate) fn go_on_with_fence<P: Port>(
     requires call { hart.old.call ≡ TheCall.Fence harts span fence }
     ensures fenced { OnOk result (HasFenced harts span fence hart.old hart.new (P.shows port.old) (P.shows port.new)) }
     ensures waits { IfErr result (λ wait. HasFenceToWait harts span fence hart.old hart.new (P.shows port.old) (P.shows port.new) wait) }
+    ensures stays { hart.new.inside ≡ hart.old.inside }
+    ensures below { (hart.new.count ≡ hart.old.count) × (hart.new.limit ≡ hart.old.limit) }
     ensures with { GoesWith hart.new (P.shows port.new) }
     ensures part { OnOk result (Part (AtWork hart.old (P.shows port.old)) (AtCount (counted hart.new) (P.shows port.new))) }
     ensures works { IfErr result (λ wait. WorksOn hart.old hart.new (P.shows port.old) (P.shows port.new)) }

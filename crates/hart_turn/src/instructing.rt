@@ -8,6 +8,7 @@ ghost use Rattle.hart_turn.specs.declared.hart.Call.{Call as TheCall};
 ghost use Rattle.hart_turn.specs.Harts.{GoesWith, is_made};
 ghost use Rattle.hart_turn.specs.Executing.{HasEndedWord};
 ghost use Rattle.hart_turn.specs.Logs.{WorksToEnd};
+ghost use Rattle.hart_turn.specs.Turning.{IsGoingOn};
 
 use crate::counting::count_up;
 use crate::ends::{Anew, TurnEnd, Wait4};
@@ -28,7 +29,9 @@ use sbi_calls::Fence;
 const WAIT_FOR_INTERRUPT: u32 = 0x1050_0073;
 
 /// How a turn ends in which this word was executed with this answer.
-fn end_of(word: u32, answer: &Answer) -> TurnEnd {
+fn end_of(word: u32, answer: &Answer) -> TurnEnd
+    ensures { IsGoingOn result }
+{
     match answer {
         Answer::Fault { .. } => TurnEnd::Trapped,
         _ if word == WAIT_FOR_INTERRUPT => TurnEnd::Rested,
@@ -47,6 +50,8 @@ pub(crate) fn resume<P: Port>(
     requires with { GoesWith hart.old (P.shows port.old) }
     requires call { hart.old.call ≡ TheCall.Fence harts span fence }
     requires below { hart.old.count < hart.old.limit }
+    ensures stays { hart.new.inside ≡ hart.old.inside }
+    ensures going { IsGoingOn result }
     ensures with { GoesWith hart.new (P.shows port.new) }
     ensures part { WorksToEnd hart.old hart.new (P.shows port.old) (P.shows port.new) }
 {
@@ -68,6 +73,7 @@ fn carry_out<P: Port>(hart: &mut Hart, port: &mut P, word: u32) -> TurnEnd
     requires touch { MayTouch (layout_of (P.shows port.old)) (P.shows port.old).own.actor (P.shows port.old).own.steps }
     requires alone { is_made hart.old.claim ≡ true → IsInSection (layout_of (P.shows port.old)) (P.shows port.old).own.actor (P.shows port.old).own.steps }
     requires draws { may_draw (P.shows port.old).own.steps ≡ true }
+    ensures going { IsGoingOn result }
     ensures with { GoesWith hart.new (P.shows port.new) }
     ensures ended { HasEndedWord word hart.old hart.new (P.shows port.old) (P.shows port.new) }
 {
@@ -107,6 +113,7 @@ pub(crate) fn instruct<P: Port>(hart: &mut Hart, port: &mut P) -> TurnEnd
     requires touch { MayTouch (layout_of (P.shows port.old)) (P.shows port.old).own.actor (P.shows port.old).own.steps }
     requires alone { is_made hart.old.claim ≡ true → IsInSection (layout_of (P.shows port.old)) (P.shows port.old).own.actor (P.shows port.old).own.steps }
     requires draws { may_draw (P.shows port.old).own.steps ≡ true }
+    ensures going { IsGoingOn result }
     ensures with { GoesWith hart.new (P.shows port.new) }
     ensures part { WorksToEnd hart.old hart.new (P.shows port.old) (P.shows port.new) }
 {

@@ -15,6 +15,7 @@ mod planning;
 mod requests;
 mod sections;
 mod starting;
+mod turning;
 
 pub use ends::{Anew, TurnEnd, Wait4};
 pub use guest_boot::boot;

@@ -3,7 +3,7 @@ ghost use Rattle.std.specs.Prelude.{◌≡◌, ◌+◌, ◌*◌, IfErr, IfOk, fa
 ghost use Rattle.step_laws.specs.Output.{has_touched};
 ghost use Rattle.guest_ram.specs.Ports.{GoesBy};
 ghost use Rattle.flush.specs.Flushed.{full_steps};
-ghost use Rattle.hart_turn.specs.Harts.{GoesWith};
+ghost use Rattle.hart_turn.specs.Harts.{GoesWith, with_round};
 ghost use Rattle.hart_turn.specs.Logs.{WorksOn};
 ghost use Rattle.hart_turn.specs.Parts.{HasServedRound, HasStoppedServing, IsOfRequests};
 
@@ -20,6 +20,7 @@ pub(crate) fn serve_requests<P: Port>(hart: &mut Hart, port: &mut P) -> Result<b
     requires untouched { has_touched (P.shows port.old).own.steps ≡ false }
     ensures served { IfOk result (λ any. HasServedRound any hart.old hart.new (P.shows port.old) (P.shows port.new)) }
     ensures held { IfErr result (λ busy. HasStoppedServing busy.holder hart.old hart.new (P.shows port.old) (P.shows port.new)) }
+    ensures still { hart.new ≡ with_round hart.new.book hart.new.served hart.old }
     ensures with { GoesWith hart.new (P.shows port.new) }
     ensures part { WorksOn hart.old hart.new (P.shows port.old) (P.shows port.new) }
     ensures untouched { has_touched (P.shows port.new).own.steps ≡ false }

@@ -7,7 +7,7 @@ ghost use Rattle.exclusive.specs.Claims.{HasClaimed, HasFoundAllOut, HasFoundCla
 ghost use Rattle.exclusive.specs.Entries.{HasEntered, HasTurnedBack};
 ghost use Rattle.signal_pieces.specs.Signalling.{IsOfSides};
 ghost use Rattle.hart_turn.specs.declared.hart.Claim.{Claim as TheClaim};
-ghost use Rattle.hart_turn.specs.Harts.{GoesWith, gone_in, is_made, wanting, with_claim};
+ghost use Rattle.hart_turn.specs.Harts.{GoesWith, IsStill, gone_in, is_made, wanting, with_claim};
 ghost use Rattle.hart_turn.specs.Logs.{WorksOn};
 ghost use Rattle.hart_turn.specs.Parts.{HasGoneAlone, HasSteppedOut, HasToWait};
 
@@ -22,6 +22,7 @@ pub(crate) const QUANTUM: u8 = 64;
 /// Lets a hart that is inside look whether another has called it out; then it leaves.
 pub(crate) fn step_out<P: Port>(hart: &mut Hart, port: &mut P)
     requires with { GoesWith hart.old (P.shows port.old) }
+    ensures still { IsStill hart.old hart.new }
     ensures steps { HasSteppedOut hart.old hart.new (P.shows port.old) (P.shows port.new) }
     ensures with { GoesWith hart.new (P.shows port.new) }
     ensures part { WorksOn hart.old hart.new (P.shows port.old) (P.shows port.new) }
@@ -107,6 +108,7 @@ pub(crate) fn go_alone<P: Port>(hart: &mut Hart, port: &mut P) -> Result<(), See
     ensures made { OnOk result (hart.new ≡ with_claim TheClaim.Made hart.old) }
     ensures section { OnOk result (IsInSection (layout_of (P.shows port.new)) (P.shows port.new).own.actor (P.shows port.new).own.steps) }
     ensures waits { IfErr result (λ seen. HasToWait seen hart.old hart.new (P.shows port.old) (P.shows port.new)) }
+    ensures outside { hart.new.inside ≡ false }
     ensures with { GoesWith hart.new (P.shows port.new) }
     ensures part { WorksOn hart.old hart.new (P.shows port.old) (P.shows port.new) }
     ensures goes { GoesBy 18 IsOfSides (P.shows port.old) (P.shows port.new) }

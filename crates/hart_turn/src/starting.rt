@@ -19,6 +19,7 @@ pub(crate) fn start<P: Port>(hart: &mut Hart, port: &mut P) -> Result<bool, Busy
     requires stopped { hart.old.runs ≡ false }
     ensures started { IfOk result (λ began. HasStarted hart.old hart.new (P.shows port.old) (P.shows port.new) began) }
     ensures held { IfErr result (λ busy. HasHeldStart busy.holder hart.old hart.new (P.shows port.old) (P.shows port.new)) }
+    ensures stays { hart.new.inside ≡ hart.old.inside }
     ensures with { GoesWith hart.new (P.shows port.new) }
     ensures part { WorksToEnd hart.old hart.new (P.shows port.old) (P.shows port.new) }
     ensures goes { GoesBy (full_steps hart.old.book.size + 4) IsOfStart (P.shows port.old) (P.shows port.new) }

@@ -1,0 +1,156 @@
+// A turn of a hart: its parts, one behind another.
+ghost use Rattle.std.specs.Prelude.{◌≡◌, ◌<◌, false, true};
+ghost use Rattle.step_laws.specs.Output.{has_touched};
+ghost use Rattle.step_laws.specs.Sections.{IsInSection, MayTouch};
+ghost use Rattle.guest_ram.specs.Ports.{layout_of};
+ghost use Rattle.turn_pieces.specs.Draws.{may_draw};
+ghost use Rattle.hart_turn.specs.declared.hart.Call.{Call as TheCall};
+ghost use Rattle.hart_turn.specs.Harts.{GoesWith, IsSettled, is_made};
+ghost use Rattle.hart_turn.specs.Logs.{BeginsAndEnds, Finishes, WorksToEnd};
+ghost use Rattle.hart_turn.specs.Turning.{IsGoingOn, StaysOrEnds};
+
+use crate::beginning::begin;
+use crate::ends::{Anew, TurnEnd, Wait4};
+use crate::hart::{Call, Claim, Hart};
+use crate::instructing::{instruct, resume};
+use crate::leaving::{spend, step_away};
+use crate::requests::serve_requests;
+use crate::sections::{go_alone, go_in, step_out};
+use crate::starting::start;
+use guest_ram::Port;
+
+/// Whether a hart that is inside stays there behind a turn that ended so.
+fn is_staying(end: &TurnEnd) -> bool {
+    matches!(
+        *end,
+        TurnEnd::Retired | TurnEnd::Trapped | TurnEnd::Again(Anew::Lost { .. })
+    )
+}
+
+/// Lets a hart end a turn in which it was inside, or in its section, and which ended so. Inside it stays for the rest of its quantum, where it goes
+/// on with the next instruction and served no request. The section is given back, but where the hart waits for its own lock to make its
+/// instruction anew.
+fn settle<P: Port>(hart: &mut Hart, port: &mut P, has_served: bool, end: &TurnEnd)
+    requires with { GoesWith hart.old (P.shows port.old) }
+    ensures settled { IsSettled hart.new (P.shows port.new) }
+    ensures part { Finishes hart.old hart.new (P.shows port.old) (P.shows port.new) }
+{
+    let is_free = matches!(hart.call, Call::Nothing);
+    if !hart.inside && is_free && matches!(*end, TurnEnd::Waiting(Wait4::Lock(_))) {
+        return;
+    }
+    if !hart.inside || !hart.runs || !is_free || has_served || !is_staying(end) {
+        step_away(hart, port);
+        return;
+    }
+    spend(hart, port);
+}
+
+/// Lets a hart that is inside, or in its section, make an instruction, and settles it.
+fn work<P: Port>(hart: &mut Hart, port: &mut P, has_served: bool) -> TurnEnd
+    requires with { GoesWith hart.old (P.shows port.old) }
+    requires runs { hart.old.runs ≡ true }
+    requires free { hart.old.call ≡ TheCall.Nothing }
+    requires below { hart.old.count < hart.old.limit }
+    requires touch { MayTouch (layout_of (P.shows port.old)) (P.shows port.old).own.actor (P.shows port.old).own.steps }
+    requires alone { is_made hart.old.claim ≡ true → IsInSection (layout_of (P.shows port.old)) (P.shows port.old).own.actor (P.shows port.old).own.steps }
+    requires draws { may_draw (P.shows port.old).own.steps ≡ true }
+    ensures going { IsGoingOn result }
+    ensures settled { IsSettled hart.new (P.shows port.new) }
+    ensures part { WorksToEnd hart.old hart.new (P.shows port.old) (P.shows port.new) }
+{
+    let end = instruct(hart, port);
+    settle(hart, port, has_served, &end);
+    end
+}
+
+/// Lets a stopped hart begin where it was started.
+fn wake<P: Port>(hart: &mut Hart, port: &mut P) -> TurnEnd
+    requires with { GoesWith hart.old (P.shows port.old) }
+    requires outside { hart.old.inside ≡ false }
+    requires stopped { hart.old.runs ≡ false }
+    ensures going { IsGoingOn result }
+    ensures settled { IsSettled hart.new (P.shows port.new) }
+    ensures part { WorksToEnd hart.old hart.new (P.shows port.old) (P.shows port.new) }
+{
+    match start(hart, port) {
+        Err(busy) => TurnEnd::Waiting(Wait4::Lock(busy)),
+        Ok(true) => TurnEnd::Started,
+        Ok(false) => TurnEnd::Idle,
+    }
+}
+
+/// Lets a hart that is outside and runs go in, or go alone where it wants the section, and then make an instruction.
+fn go_to_work<P: Port>(hart: &mut Hart, port: &mut P, has_served: bool) -> TurnEnd
+    requires with { GoesWith hart.old (P.shows port.old) }
+    requires outside { hart.old.inside ≡ false }
+    requires runs { hart.old.runs ≡ true }
+    requires free { hart.old.call ≡ TheCall.Nothing }
+    requires below { hart.old.count < hart.old.limit }
+    requires draws { may_draw (P.shows port.old).own.steps ≡ true }
+    ensures going { IsGoingOn result }
+    ensures settled { IsSettled hart.new (P.shows port.new) }
+    ensures part { WorksToEnd hart.old hart.new (P.shows port.old) (P.shows port.new) }
+{
+    if matches!(hart.claim, Claim::Unwanted) {
+        return match go_in(hart, port) {
+            Err(seen) => TurnEnd::Waiting(Wait4::Entry(seen)),
+            Ok(()) => work(hart, port, has_served),
+        };
+    }
+    match go_alone(hart, port) {
+        Err(seen) => TurnEnd::Waiting(Wait4::Section(seen)),
+        Ok(()) => work(hart, port, has_served),
+    }
+}
+
+/// Lets a hart that is outside and served its requests go on: to its start, its fence in progress, or its next instruction.
+fn come_in<P: Port>(hart: &mut Hart, port: &mut P, has_served: bool) -> TurnEnd
+    requires with { GoesWith hart.old (P.shows port.old) }
+    requires outside { hart.old.inside ≡ false }
+    requires below { hart.old.count < hart.old.limit }
+    requires draws { may_draw (P.shows port.old).own.steps ≡ true }
+    ensures going { IsGoingOn result }
+    ensures settled { IsSettled hart.new (P.shows port.new) }
+    ensures part { WorksToEnd hart.old hart.new (P.shows port.old) (P.shows port.new) }
+{
+    if !hart.runs {
+        return wake(hart, port);
+    }
+    match hart.call {
+        Call::Nothing => go_to_work(hart, port, has_served),
+        Call::Fence { harts, span, fence } => resume(hart, port, harts, span, fence),
+    }
+}
+
+/// Lets a hart go on behind its look at STOP.
+fn go_on<P: Port>(hart: &mut Hart, port: &mut P) -> TurnEnd
+    requires settled { IsSettled hart.old (P.shows port.old) }
+    requires below { hart.old.count < hart.old.limit }
+    requires untouched { has_touched (P.shows port.old).own.steps ≡ false }
+    requires draws { may_draw (P.shows port.old).own.steps ≡ true }
+    ensures going { IsGoingOn result }
+    ensures settled { IsSettled hart.new (P.shows port.new) }
+    ensures part { WorksToEnd hart.old hart.new (P.shows port.old) (P.shows port.new) }
+{
+    step_out(hart, port);
+    if hart.inside {
+        return work(hart, port, false);
+    }
+    match serve_requests(hart, port) {
+        Err(busy) => TurnEnd::Waiting(Wait4::Lock(busy)),
+        Ok(has_served) => come_in(hart, port, has_served),
+    }
+}
+
+/// A turn of a hart.
+pub(crate) fn turn<P: Port>(hart: &mut Hart, port: &mut P) -> TurnEnd
+    requires settled { IsSettled hart.old (P.shows port.old) }
+    ensures settled { StaysOrEnds result hart.new (P.shows port.new) }
+    ensures part { BeginsAndEnds hart.old hart.new (P.shows port.old) (P.shows port.new) }
+{
+    match begin(hart, port) {
+        Some(reason) => TurnEnd::Ended(reason),
+        None => go_on(hart, port),
+    }
+}
