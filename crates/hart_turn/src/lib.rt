@@ -20,3 +20,5 @@ pub use hart::{Call, Claim, Hart};
 
 #[cfg(test)]
 mod tests;
+#[cfg(test)]
+mod tests_instructions;
