@@ -21,4 +21,6 @@ pub use hart::{Call, Claim, Hart};
 #[cfg(test)]
 mod tests;
 #[cfg(test)]
+mod tests_fences;
+#[cfg(test)]
 mod tests_instructions;

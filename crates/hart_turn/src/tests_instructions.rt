@@ -32,7 +32,7 @@ use step_laws::{
 use work_queue::{Request, Sent, post};
 
 /// The hart goes in, or alone where it wants the section. Whether it may fetch then.
-fn stand<P: Port>(hart: &mut Hart, port: &mut P) -> bool
+pub(crate) fn stand<P: Port>(hart: &mut Hart, port: &mut P) -> bool
     requires with { GoesWith hart.old (P.shows port.old) }
     requires draws { may_draw (P.shows port.old).own.steps ≡ true }
     ensures with { GoesWith hart.new (P.shows port.new) }

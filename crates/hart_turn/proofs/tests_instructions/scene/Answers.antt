@@ -13,5 +13,7 @@ play-end-requires c =
     let layout = c.in_ok-table.ensures.layout in
     let limits : IsInLimits m.layout = subst IsInLimits (sym layout) (record { some_hart = omega arith; harts = omega arith; some_pages = omega arith; pages = omega arith }) in
     let few : 0 < m.layout.harts = subst (λ (l : Layout). 0 < l.harts) (sym layout) (omega arith) in
-    record { with = subst (λ (h : Hart). GoesWith h (pass_shown c.pass-pass.result)) (sym c.hart_with-hart.ensures)
-    (first_goes m 0 c.args.limit c.args.arch.now (pass_shown c.pass-pass.result) (c.pass-pass.ensures ∙ c.in_ok-table.ensures.first) limits few c.requires.limit) }
+    record {
+      with = subst (λ (h : Hart). GoesWith h (pass_shown c.pass-pass.result)) (sym c.hart_with-hart.ensures)
+          (first_goes m 0 c.args.limit c.args.arch.now (pass_shown c.pass-pass.result) (c.pass-pass.ensures ∙ c.in_ok-table.ensures.first) limits few c.requires.limit);
+    }
