@@ -14,6 +14,12 @@ use Rattle.need_serving.specs.declared.ends.NeedEnd.TheVariants as ends
 use Rattle.need_serving.specs.Ends.{end_of_call}
 use Rattle.need_serving.specs.Serving.{HasServed, IsServed}
 use Rattle.need_pieces.proofs.Served.{fences_wait}
+use Rattle.std.specs.Prelude.{Option}
+use Rattle.rv64_decode.specs.declared.instruction.Instr.{Instr}
+use Rattle.rv64_exec.specs.Plan.{need_of}
+use Rattle.hart_turn.specs.declared.hart.Hart.{Hart}
+use Rattle.hart_turn.specs.Harts.{is_made}
+use Rattle.hart_turn.specs.Executing.{HasDone as HasDoneFor, HasExecuted, served}
 
 -- a call that comes to a fence
 fence_called : (harts : ℕ) (span : Span) (call : SbiEnd) → ends.Fence harts span ≡ end_of_call call → call ≡ SbiEnd.Fence harts span
@@ -66,3 +72,10 @@ fence_asked p q b b' c section need harts span x =
     let called = y.1 in
     let is = is_fence p q harts span section called.0 y.0 called.2 (fence_called harts span y.0 y.3) in
     (x.fits, subst (λ (z : Shown). IsAsked (layout_of z) c (Asked.Fences harts span)) (sym still.0) (subst (λ asked. IsAsked (layout_of p) c asked) is called.1))
+
+word_done : (word harts : ℕ) (span : Span) (h k : Hart) (p q : Shown) {o : Option Instr} → HasDoneFor word h k p q o (ends.Fence harts span) → IsAsked (layout_of q) k.arch (Asked.Fences harts span)
+word_done word harts span h k p q (served i is by) = subst (λ (z : Hart). IsAsked (layout_of q) z.arch (Asked.Fences harts span)) (sym is) (fence_asked p q h.book k.book h.arch (is_made h.claim) (need_of h.arch i) harts span by).1
+
+-- and so it is where a word's execution asks for it
+pub word_asked : (word harts : ℕ) (span : Span) (h k : Hart) (p q : Shown) → HasExecuted word (ends.Fence harts span) h k p q → IsAsked (layout_of q) k.arch (Asked.Fences harts span)
+word_asked word harts span h k p q x = word_done word harts span h k p q x.done

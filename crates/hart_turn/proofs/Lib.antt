@@ -1,4 +1,5 @@
 mod Aside
+mod Draws
 mod Sides
 mod Moving
 mod Begun

@@ -23,3 +23,7 @@ pub use hart::{Call, Claim, Hart};
 
 #[cfg(test)]
 mod tests;
+#[cfg(test)]
+mod tests_fences;
+#[cfg(test)]
+mod tests_instructions;

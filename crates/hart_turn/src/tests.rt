@@ -31,7 +31,7 @@ use step_laws::{
 };
 use work_queue::{Request, Sent, post};
 
-const LAYOUT: Layout = Layout {
+pub(crate) const LAYOUT: Layout = Layout {
     harts: 2,
     pages: 256,
 };
@@ -61,7 +61,7 @@ enum Then {
 }
 
 /// A hart as a machine begins with it, but for its registers.
-fn hart_with(number: u8, arch: &Arch, limit: u64) -> Hart
+pub(crate) fn hart_with(number: u8, arch: &Arch, limit: u64) -> Hart
     requires limit { 0 < limit }
     ensures { result ≡ record (first_hart number 0 limit) { arch = arch.now } }
 {
@@ -71,7 +71,7 @@ fn hart_with(number: u8, arch: &Arch, limit: u64) -> Hart
 }
 
 /// Registers of which each is 0, but for pc, where traps lead, and whether SIE and SSIE are set: bit 1 of sstatus and of sie.
-fn registers(user: bool, sie: bool, ssie: bool) -> Arch {
+pub(crate) fn registers(user: bool, sie: bool, ssie: bool) -> Arch {
     Arch {
         x: [0; 32],
         pc: 0x8000_0100,
