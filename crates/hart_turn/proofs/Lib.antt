@@ -10,7 +10,6 @@ mod Counted
 mod Pages
 mod Coded
 mod Executed
-mod Draws
 mod Instructed
 mod Turned
 mod First
