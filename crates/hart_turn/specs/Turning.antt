@@ -4,6 +4,7 @@ use Rattle.step_laws.specs.Output.{is_finished}
 use Rattle.guest_ram.specs.Ports.{Shown}
 use Rattle.hart_turn.specs.declared.ends.TurnEnd.{TurnEnd}
 use Rattle.hart_turn.specs.declared.ends.TurnEnd.TheVariants as ends
+use Rattle.hart_turn.specs.declared.ends.Wait4.TheVariants as waits
 use Rattle.hart_turn.specs.declared.hart.Hart.{Hart}
 use Rattle.hart_turn.specs.Harts.{IsSettled}
 
@@ -16,3 +17,8 @@ StaysOrEnds end h p = IsSettled h p
 abbrev pub IsGoingOn : TurnEnd → Type 0
 IsGoingOn (ends.Ended reason) = ⊥
 IsGoingOn end = Unit {0}
+
+-- but where it waits for its own lock
+abbrev pub UnlessLocked : TurnEnd → Type 0 → Type 0
+UnlessLocked (ends.Waiting (waits.Lock busy)) A = Unit {0}
+UnlessLocked end A = A

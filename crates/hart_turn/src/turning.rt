@@ -7,7 +7,7 @@ ghost use Rattle.turn_pieces.specs.Draws.{may_draw};
 ghost use Rattle.hart_turn.specs.declared.hart.Call.{Call as TheCall};
 ghost use Rattle.hart_turn.specs.Harts.{GoesWith, IsSettled, is_made};
 ghost use Rattle.hart_turn.specs.Logs.{BeginsAndEnds, Finishes, WorksToEnd};
-ghost use Rattle.hart_turn.specs.Turning.{IsGoingOn, StaysOrEnds};
+ghost use Rattle.hart_turn.specs.Turning.{IsGoingOn, StaysOrEnds, UnlessLocked};
 
 use crate::beginning::begin;
 use crate::ends::{Anew, TurnEnd, Wait4};
@@ -33,6 +33,7 @@ fn is_staying(end: &TurnEnd) -> bool {
 fn settle<P: Port>(hart: &mut Hart, port: &mut P, has_served: bool, end: &TurnEnd)
     requires with { GoesWith hart.old (P.shows port.old) }
     ensures settled { IsSettled hart.new (P.shows port.new) }
+    ensures section { UnlessLocked end.now (is_made hart.new.claim ≡ false) }
     ensures part { Finishes hart.old hart.new (P.shows port.old) (P.shows port.new) }
 {
     let is_free = matches!(hart.call, Call::Nothing);
@@ -57,6 +58,7 @@ fn work<P: Port>(hart: &mut Hart, port: &mut P, has_served: bool) -> TurnEnd
     requires draws { may_draw (P.shows port.old).own.steps ≡ true }
     ensures going { IsGoingOn result }
     ensures settled { IsSettled hart.new (P.shows port.new) }
+    ensures section { UnlessLocked result (is_made hart.new.claim ≡ false) }
     ensures part { WorksToEnd hart.old hart.new (P.shows port.old) (P.shows port.new) }
 {
     let end = instruct(hart, port);
