@@ -1,18 +1,12 @@
 -- An instruction from its look at interrupts to its count: the parts of its log, one behind another.
-use Rattle.std.proofs.Common.{◌≡◌, ℕ, true, false, refl, sym, ap, subst, ◌∙◌}
+use Rattle.std.proofs.Common.{◌≡◌, ℕ, true, false, refl, ap, ◌∙◌}
 use Rattle.std.specs.Prelude.{Option}
 use Rattle.rv64_decode.specs.declared.instruction.Instr.{Instr}
 use Rattle.rv64_priv.specs.State.{Arch}
 use Rattle.rv64_exec.specs.Plan.{need_of, need_of_code}
 use Rattle.rv64_exec.specs.declared.needs.Answer.{Answer}
 use Rattle.rv64_exec.specs.declared.needs.Need.{Need}
-use Rattle.step_laws.specs.Map.{Word}
-use Rattle.step_laws.specs.Sections.{IsInSection}
-use Rattle.guest_ram.specs.Areas.{IsAside}
-use Rattle.guest_ram.specs.Ports.{GoesBy, Shown, layout_of}
-use Rattle.guest_ram.proofs.Moves.{stands_goes}
-use Rattle.hart_calls.specs.Asked.{IsAsked}
-use Rattle.hart_calls.specs.declared.asking.Asked.{Asked}
+use Rattle.guest_ram.specs.Ports.{Shown}
 use Rattle.hart_calls.specs.declared.spans.Span.{Span}
 use Rattle.need_serving.specs.declared.ends.NeedEnd.TheVariants as ends
 use Rattle.turn_pieces.specs.Grows.{Part}
@@ -23,7 +17,6 @@ use Rattle.hart_turn.specs.Executing.{AtExecute, FetchesOn, HasDone, HasEndedWor
 use Rattle.hart_turn.specs.Fences.{BeginsCall}
 use Rattle.hart_turn.specs.Harts.{counted, wanting}
 use Rattle.hart_turn.specs.Logs.{AtCount, AtEnd, AtFetch, AtWork, LooksOn, WorksOn, WorksToEnd}
-use Rattle.hart_turn.proofs.Asked.{fence_asked}
 use Rattle.hart_turn.proofs.Sides.{part_still}
 
 -- a hart at work is at the end of its work
@@ -44,30 +37,23 @@ module _ (word : ℕ) (h k m : Hart) (p q r : Shown) where
 pub ended_section : (word : ℕ) (h k : Hart) (p q : Shown) → HasExecuted word ends.NeedsSection h k p q → HasEndedWord word h (wanting k) p q
 ended_section word h k p q x = record { instr = x.instr; decodes = x.decodes; part = part_still (AtExecute h (record { word = word; instr = x.instr }) p) k (wanting k) q refl x.part }
 
--- what asked for a fence
-record IsFenceOf (word : ℕ) (instr : Option Instr) (harts : ℕ) (span : Span) (h k : Hart) (q : Shown) : Type 0 where
+-- what asked for a fence is an ECALL, and its hart runs on
+record IsFenceOf (word : ℕ) (instr : Option Instr) (h k : Hart) : Type 0 where
   need_is : need_of_code k.arch (record { word = word; instr = instr }) ≡ Need.Sbi
-  asked : IsAsked (layout_of q) k.arch (Asked.Fences harts span)
   runs : k.runs ≡ h.runs
 
-fence_facts : (word : ℕ) (h k : Hart) (p q : Shown) (harts : ℕ) (span : Span) (instr : Option Instr) → HasDone word h k p q instr (ends.Fence harts span) → IsFenceOf word instr harts span h k q
-fence_facts word h k p q harts span instr (served i left by) =
-    let y = fence_asked p q h.book k.book h.arch _ (need_of h.arch i) harts span by in
-    let same : k.arch ≡ h.arch = ap (λ (z : Hart). z.arch) left in record {
-      need_is = ap (λ (c : Arch). need_of c i) same ∙ y.0;
-      asked = subst (λ (c : Arch). IsAsked (layout_of q) c (Asked.Fences harts span)) (sym same) y.1;
-      runs = ap (λ (z : Hart). z.runs) left;
-    }
+fence_facts : (word : ℕ) (h k : Hart) (p q : Shown) (harts : ℕ) (span : Span) (instr : Option Instr) → HasDone word h k p q instr (ends.Fence harts span) → IsFenceOf word instr h k
+fence_facts word h k p q harts span instr (served i left by) = record {
+  need_is = ap (λ (c : Arch). need_of c i) (ap (λ (z : Hart). z.arch) left) ∙ by.fits;
+  runs = ap (λ (z : Hart). z.runs) left;
+}
 
 module _ (word : ℕ) (h k : Hart) (p q : Shown) (harts : ℕ) (span : Span) (x : HasExecuted word (ends.Fence harts span) h k p q) where
-  facts : IsFenceOf word x.instr harts span h k q
+  facts : IsFenceOf word x.instr h k
   facts = fence_facts word h k p q harts span x.instr x.done
 
   pub fence_runs : h.runs ≡ true → k.runs ≡ true
   fence_runs running = facts.runs ∙ running
-
-  pub fence_is_asked : IsAsked (layout_of q) k.arch (Asked.Fences harts span)
-  fence_is_asked = facts.asked
 
   pub ended_fence : (m n : Hart) (r : Shown) → BeginsCall k m q → WorksToEnd m n q r → HasEndedWord word h n p r
   ended_fence m n r begins works = record {
@@ -81,10 +67,6 @@ module _ (word : ℕ) (h k : Hart) (p q : Shown) (harts : ℕ) (span : Span) (x 
           holds = w.holds;
         };
   }
-
--- the section stays over steps on other words
-pub section_goes : (n : ℕ) (A : Word → Type 0) (p q : Shown) → ((w : Word) → A w → IsAside w) → GoesBy n A p q → IsInSection (layout_of p) p.own.actor p.own.steps → IsInSection (layout_of q) q.own.actor q.own.steps
-section_goes n A p q aside goes x = let s = stands_goes n A p q aside goes in (s.claim ∙ x.0, s.pass ∙ x.1)
 
 -- a look that found no interrupt, a fetch, and what came of it
 module _ (h j k : Hart) (p q r : Shown) (looks : LooksOn false h j p q) where

@@ -1,6 +1,7 @@
 use Rattle.std.proofs.Common.{sym, subst}
 use Rattle.hart_turn.specs.Executing.{HasEndedWord}
-use Rattle.hart_turn.proofs.Instructed.{ended_done, ended_fence, ended_section, ended_stop, fence_is_asked, fence_runs}
+use Rattle.hart_turn.proofs.Instructed.{ended_done, ended_fence, ended_section, ended_stop, fence_runs}
+use Rattle.hart_turn.proofs.Asked.{word_asked}
 use Rattle.hart_turn.proofs.instructing.carry_out.Goals as goal
 
 pub returns-in-Done-clause-ended : goal.returns-in-Done-clause-ended
@@ -18,7 +19,7 @@ begin_fence-requires g c = record { runs = fence_runs c.args.word c.args.hart.no
 
 pub resume-requires-clause-with : goal.resume-requires-clause-with
 resume-requires-clause-with g c = c.begin_fence.ensures.with (g.P.Look.shows c.execute_word.new.port)
-    (fence_is_asked c.args.word c.args.hart.now c.execute_word.new.hart (g.P.Look.shows c.args.port.now) (g.P.Look.shows c.execute_word.new.port) c.in-Fence.harts c.in-Fence.span c.in-Fence.ensures.executed) c.execute_word.ensures.with
+    (word_asked c.args.word c.in-Fence.harts c.in-Fence.span c.args.hart.now c.execute_word.new.hart (g.P.Look.shows c.args.port.now) (g.P.Look.shows c.execute_word.new.port) c.in-Fence.ensures.executed) c.execute_word.ensures.with
 
 pub returns-in-Fence-clause-ended : goal.returns-in-Fence-clause-ended
 returns-in-Fence-clause-ended g c = ended_fence c.args.word c.args.hart.now c.execute_word.new.hart (g.P.Look.shows c.args.port.now) (g.P.Look.shows c.execute_word.new.port) c.in-Fence.harts c.in-Fence.span c.in-Fence.ensures.executed
