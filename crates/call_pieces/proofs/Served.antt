@@ -1,5 +1,5 @@
 -- Calls are served, case by case.
-use Rattle.std.proofs.Common.{◌≡◌, ◌≢◌, ℕ, zero, suc, ◌<◌, ◌≤◌, arith, Bool, true, List, [], ◌∷◌, refl, false, sym, ap, subst, ◌∙◌}
+use Rattle.std.proofs.Common.{◌≡◌, ◌≢◌, ℕ, zero, suc, ◌<◌, ◌≤◌, arith, Bool, true, true≢false, List, [], ◌∷◌, refl, false, sym, ap, subst, ◌∙◌, inl, ne_eqb}
 use Rattle.rv64_priv.specs.State.{Arch}
 use Rattle.rv64_priv.specs.Csr.{regime}
 use Rattle.rv64_priv.specs.Walk.{PageFault}
@@ -12,7 +12,7 @@ use Rattle.rv64_priv.specs.declared.state.Regime.{Regime}
 use Rattle.step_laws.specs.declared.steps.Step.{Step}
 use Rattle.step_laws.specs.Discipline.{minus_one}
 use Rattle.step_laws.specs.Words.{console_places}
-use Rattle.step_laws.specs.Map.{Hsm, Live}
+use Rattle.step_laws.specs.Map.{Word, Hsm, Live, name_of}
 use Rattle.machine_model.specs.Event.{Event, Exec, Outcome, actor_of, only}
 use Rattle.machine_model.specs.declared.mode.Mode.{Mode}
 use Rattle.machine_model.specs.declared.mode.Mode.TheVariants.{Started}
@@ -26,9 +26,9 @@ use Rattle.turn_pieces.specs.Doing.{IsQuiet}
 use Rattle.turn_pieces.specs.Draws.{may_draw}
 use Rattle.guest_ram.specs.Plays.{step_of}
 use Rattle.guest_devices.specs.Output.{HasDrawn}
-use Rattle.turn_pieces.specs.Folds.{drawn_next}
+use Rattle.turn_pieces.specs.Folds.{drawn_next, was_last, was_last_next}
 use Rattle.turn_pieces.specs.Kept.{places}
-use Rattle.turn_pieces.specs.Log.{made, did, Log, events_of, steps_of}
+use Rattle.turn_pieces.specs.Log.{made, did, Log, before, events_of, steps_of}
 use Rattle.turn_pieces.specs.Right.{MayBe}
 use Rattle.turn_pieces.specs.Grows.{Ends, stays}
 use Rattle.turn_pieces.specs.Shared.{IsShared, mode_named}
@@ -43,7 +43,7 @@ use Rattle.hart_calls.specs.Ends.{succeeds}
 use Rattle.hart_calls.specs.States.{IsRunner, mode_found}
 use Rattle.call_laws.specs.Found.{IsFound}
 use Rattle.call_laws.specs.Did.{answer_of, did_call}
-use Rattle.call_pieces.specs.Laws.{CallsAreServed, OwnStartsAreServed}
+use Rattle.call_pieces.specs.Laws.{CallsAreServed, OwnStartsAreServed, StopsAreSaid}
 use Rattle.call_pieces.proofs.Ending.{byte_placed, full_placed, room_drawn, stop_placed}
 use Rattle.call_pieces.proofs.Moving.{all_stopped, ipi_is, left_placed, sent_placed, started_placed}
 use Rattle.call_pieces.proofs.Placing.{Behind, IsNoFence, calm, calm_idle, did_is, exec_fit, no_flush, rested}
@@ -112,6 +112,37 @@ some_room u a l place w m one less = let room = room_drawn u a l place w m one i
 no_room : (u : Setup) (a : ℕ) (l : Log) (place : ℕ) (w : Surroundings) → MayBe u a l w → places l ≡ place ∷ [] → console_places ≤ place → w.room ≡ 0
 no_room u a l place w m one beyond = let room = room_drawn u a l place w m one in omega (arith, room, beyond)
 
+-- the hart took the last one from LIVE exactly where it found 1 there
+last_of_more : (w : Word) (a left : ℕ) (before : Bool) → w ≡ Live → left ≢ 1 → was_last_next a w Add minus_one left before ≡ false
+last_of_more w a left before name ne = ap (λ v. was_last_next a v Add minus_one left before) name ∙ ne_eqb left 1 ne
+
+not_both : (b : Bool) → b ≡ false → b ≡ true → ⊥
+not_both b e f = true≢false (sym f ∙ e)
+
+pub stops_said : StopsAreSaid
+unfolding ended name_of
+stops_said p q b c section end (stopped left ne x) runner is o wants u a l t =
+    let done : HasLeft p q end = stopped left ne x in
+    let own : p.own.actor ≡ a = sym t.tells.tells.stands.actor in
+    let y = ended o p q b c section Asked.Leaves end done runner is tt wants u a l t _
+    (calm (own_executed (did_call p q section Asked.Leaves end done) o) b (regime c) u a x.stopped q Live Add minus_one left x.takes tt tt (λ n. tt) l _
+    (left_placed o b (regime c) u a (answer_of end) p x.stopped x.stops l l own (first o p q b c section Asked.Leaves end done runner is tt wants u a l t) (there o p q b c section Asked.Leaves end done runner is tt wants u a l t)
+    (fits o p q b c section Asked.Leaves end done runner is tt wants u a l t _ (λ w y. tt)))) refl refl refl in record {
+      late = y.late;
+      grows = y.grows;
+      holds = record { called = y.holds; said = λ last. absurd (not_both (was_last a (steps_of y.late)) (last_of_more (name_of x.takes.word) a left (was_last a (steps_of (before y.late))) x.takes.name ne) last) };
+    }
+stops_said p q b c section end (stopped_last mid stands x y) runner is o wants u a l t =
+    let done : HasLeft p q end = stopped_last mid stands x y in
+    let own : p.own.actor ≡ a = sym t.tells.tells.stands.actor in
+    let z = ended o p q b c section Asked.Leaves end done runner is tt wants u a l t _
+    (all_stopped o b (regime c) u a (answer_of end) stands p x.stopped mid q x.stops x.takes y l l own (first o p q b c section Asked.Leaves end done runner is tt wants u a l t) (there o p q b c section Asked.Leaves end done runner is tt wants u a l t)
+    (fits o p q b c section Asked.Leaves end done runner is tt wants u a l t _ (λ w z. tt))) refl refl refl in record {
+      late = z.late;
+      grows = z.grows;
+      holds = record { called = z.holds; said = λ last. inl refl };
+    }
+
 pub calls_served : CallsAreServed
 calls_served p q b c section (Asked.Gives error value) end done runner may is s o wants u a l t = still o p q b c section (Asked.Gives error value) end done runner is tt wants u a l t done.1 refl (λ w m. tt)
 calls_served p q b c section (Asked.GivesOne error) end done runner may is s o wants u a l t = still o p q b c section (Asked.GivesOne error) end done runner is tt wants u a l t done.1 refl (λ w m. tt)
@@ -133,19 +164,7 @@ calls_served p q b c section (Asked.Starts target at opaque) end (refused found 
 calls_served p q b c section (Asked.Starts target at opaque) end (is_own own same) runner may is s o wants u a l t = absurd (s own)
 calls_served p q b c section (Asked.TellsState target) end done runner may is s o wants u a l t =
     looked o p q b c section (Asked.TellsState target) end done runner is tt wants u a l t target done.0 0 Load done.2 is.sound load_no_store tt (λ n. tt) refl (λ w e. e)
-calls_served p q b c section Asked.Leaves end (stopped left ne x) runner may is s o wants u a l t =
-    let done : HasLeft p q end = stopped left ne x in
-    let own : p.own.actor ≡ a = sym t.tells.tells.stands.actor in
-    ended o p q b c section Asked.Leaves end done runner is tt wants u a l t _
-    (calm (own_executed (did_call p q section Asked.Leaves end done) o) b (regime c) u a x.stopped q Live Add minus_one left x.takes tt tt (λ n. tt) l _
-    (left_placed o b (regime c) u a (answer_of end) p x.stopped x.stops l l own (first o p q b c section Asked.Leaves end done runner is tt wants u a l t) (there o p q b c section Asked.Leaves end done runner is tt wants u a l t)
-    (fits o p q b c section Asked.Leaves end done runner is tt wants u a l t _ (λ w y. tt)))) refl refl refl
-calls_served p q b c section Asked.Leaves end (stopped_last mid stands x y) runner may is s o wants u a l t =
-    let done : HasLeft p q end = stopped_last mid stands x y in
-    let own : p.own.actor ≡ a = sym t.tells.tells.stands.actor in
-    ended o p q b c section Asked.Leaves end done runner is tt wants u a l t _
-    (all_stopped o b (regime c) u a (answer_of end) stands p x.stopped mid q x.stops x.takes y l l own (first o p q b c section Asked.Leaves end done runner is tt wants u a l t) (there o p q b c section Asked.Leaves end done runner is tt wants u a l t)
-    (fits o p q b c section Asked.Leaves end done runner is tt wants u a l t _ (λ w z. tt))) refl refl refl
+calls_served p q b c section Asked.Leaves end done runner may is s o wants u a l t = let y = stops_said p q b c section end done runner is o wants u a l t in record { late = y.late; grows = y.grows; holds = y.holds.called }
 calls_served p q b c section (Asked.Ends reason) end done runner may is s o wants u a l t =
     let asked = Asked.Ends reason in
     ended o p q b c section asked end done runner is tt wants u a l t _

@@ -6,7 +6,9 @@ use Rattle.machine_model.specs.Run.{counts, last_of, passes}
 use Rattle.machine_model.specs.State.{Setup}
 use Rattle.guest_ram.specs.Ports.{Shown}
 use Rattle.tlb_entry.specs.declared.books.Book.{Book}
-use Rattle.turn_pieces.specs.Log.{Log, events_of}
+use Rattle.turn_pieces.specs.Folds.{was_last}
+use Rattle.turn_pieces.specs.Kept.{HasSaid}
+use Rattle.turn_pieces.specs.Log.{Log, events_of, steps_of}
 use Rattle.turn_pieces.specs.Owed.{nothing, owed}
 use Rattle.access_pieces.specs.Serving.{Tells}
 
@@ -19,3 +21,12 @@ pub record Idles (o : Own) (p : Shown) (b : Book) (r : Regime) (u : Setup) (a : 
 pub record Called (o : Own) (p : Shown) (b : Book) (r : Regime) (u : Setup) (a : ℕ) (l : Log) : Type 0 where
   pub tells : Tells o p b r u a l
   pub counts : passes counts (last_of a (events_of l)) ≡ true
+
+-- a hart that took the last one from LIVE says that all harts have stopped
+abbrev pub HasSaidLast : (a : ℕ) → Log → Type 0
+HasSaidLast a l = was_last a (steps_of l) ≡ true → HasSaid l
+
+-- such a log behind a call that stopped its hart
+pub record Halted (o : Own) (p : Shown) (b : Book) (r : Regime) (u : Setup) (a : ℕ) (l : Log) : Type 0 where
+  pub called : Called o p b r u a l
+  pub said : HasSaidLast a l

@@ -9,11 +9,11 @@ use Rattle.tlb_entry.specs.declared.books.Book.{Book}
 use Rattle.turn_pieces.specs.Draws.{may_draw}
 use Rattle.turn_pieces.specs.Grows.{Part}
 use Rattle.access_pieces.specs.Serving.{Wants}
-use Rattle.call_pieces.specs.Idle.{Called, Idles}
+use Rattle.call_pieces.specs.Idle.{Called, Halted, Idles}
 use Rattle.hart_calls.specs.declared.asking.Asked.{Asked}
 use Rattle.hart_calls.specs.declared.outcomes.SbiEnd.{SbiEnd}
 use Rattle.hart_calls.specs.Asked.{IsAsked}
-use Rattle.hart_calls.specs.Called.{HasDone, HasTried}
+use Rattle.hart_calls.specs.Called.{HasDone, HasLeft, HasTried}
 use Rattle.hart_calls.specs.States.{IsRunner}
 use Rattle.call_laws.specs.Did.{did_call}
 
@@ -37,3 +37,8 @@ abbrev pub OwnStartsAreServed : Type 0
 OwnStartsAreServed = (p q : Shown) (b : Book) (c : Arch) (section : Bool) (target at opaque : ℕ) (end : SbiEnd) (done : HasTried p q target at opaque end)
     → IsRunner p → IsAsked (layout_of p) c (Asked.Starts target at opaque) → target ≡ p.own.actor
     → (o : Own) → o.runs ≡ true → Wants o c Need.Sbi → Part (Idles o p b (regime c)) (Called (own_executed (did_call p q section (Asked.Starts target at opaque) end done) o) q b (regime c))
+
+-- and behind a stop the log says that all harts have stopped, where the hart was the last
+abbrev pub StopsAreSaid : Type 0
+StopsAreSaid = (p q : Shown) (b : Book) (c : Arch) (section : Bool) (end : SbiEnd) (done : HasLeft p q end) → IsRunner p → IsAsked (layout_of p) c Asked.Leaves
+    → (o : Own) → Wants o c Need.Sbi → Part (Idles o p b (regime c)) (Halted (own_executed (did_call p q section Asked.Leaves end done) o) q b (regime c))

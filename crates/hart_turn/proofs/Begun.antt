@@ -14,6 +14,7 @@ use Rattle.hart_turn.specs.Harts.{GoesWith, own_of}
 use Rattle.hart_turn.specs.Logs.{Begins, BeginsAndEnds, Finishes}
 use Rattle.hart_turn.specs.Parts.{IsOfBegin, IsOfLeaving}
 use Rattle.hart_turn.proofs.Aside.{with_step}
+use Rattle.hart_turn.proofs.Said.{said_look}
 use Rattle.hart_turn.proofs.Sides.{call_behind}
 
 module _ (h : Hart) (p q : Shown) (found : ℕ) (m : Made p q Stop Load 0 found) where
@@ -32,6 +33,7 @@ module _ (h : Hart) (p q : Shown) (found : ℕ) (m : Made p q Stop Load 0 found)
             held = x.held;
             settles = record { tells = y.rests.tells; settled = y.rests.settled };
             not_due = y.not_due;
+            said = said_look a y.look l y.looks x.said;
             call = call_behind 1 (λ v. v ≡ Stop) h.call h.sent h.arch p q x.held a l (made y.look ∷ l) (goes_one p q Stop Load 0 found m) (quiet_behind a (y.look ∷ []) l) x.call;
           };
           idle = y.rests.idle;

@@ -24,6 +24,8 @@ use Rattle.hart_turn.specs.Harts.{GoesWith, own_of}
 use Rattle.hart_turn.specs.Executing.{FetchesOn}
 use Rattle.hart_turn.proofs.Aside.{IsNoEnd, call_goes, stand_as, stop_goes}
 use Rattle.hart_turn.proofs.Looks.{call_none}
+use Rattle.hart_turn.proofs.Draws.{fill_neither}
+use Rattle.hart_turn.proofs.Said.{said_goes}
 
 fill_aside : (w : Word) → IsOfFill w → IsAside w
 fill_aside (Ram i) t = tt
@@ -78,13 +80,13 @@ module _ (h : Hart) (book : Book) (p q : Shown) (can : GoesWith h p) where
     stopped = can.stopped;
   }
 
-module _ (h : Hart) (book : Book) (p q : Shown) (access : CanAccess h.book p) where
+module _ (h : Hart) (book : Book) (p q : Shown) (access : CanAccess h.book p) (goes : GoesBy 16 IsOfFill p q) where
   pub word_works : (word : ℕ) → HasFetched p q h.book book (regime h.arch) h.arch.pc (comes.Word word) → FetchesOn (comes.Word word) h (record h { book = book }) p q
   word_works word fetched code is decodes u a l x =
       let y = fetches_are_logged p q h.book book h.arch (comes.Word word) access fetched nobody (own_of h None) u a l x.may code is decodes in record {
         late = _;
         grows = y.grows;
-        holds = record { limit_is = x.limit_is; rests = y.rests; not_due = y.due_is };
+        holds = record { limit_is = x.limit_is; rests = y.rests; not_due = y.due_is; said = said_goes 16 IsOfFill p q u a l _ fill_neither goes x.may.rests.tells.tells.stands.is y.rests.tells.tells.stands.is y.grows x.said };
       }
 
   pub fault_works : (cause tval : ℕ) → HasFetched p q h.book book (regime h.arch) h.arch.pc (comes.Fault cause tval) → h.call ≡ Call.Nothing → FetchesOn (comes.Fault cause tval) h (record h { arch = trapped h.arch cause tval; book = book }) p q
@@ -92,7 +94,7 @@ module _ (h : Hart) (book : Book) (p q : Shown) (access : CanAccess h.book p) wh
       let y = fetches_are_logged p q h.book book h.arch (comes.Fault cause tval) access fetched nobody (own_of h None) u a l x.may in record {
         late = _;
         grows = y.grows;
-        holds = record { limit_is = x.limit_is; settles = record { tells = y.rests.tells; settled = y.rests.settled }; due_is = y.due_is; free = free };
+        holds = record { limit_is = x.limit_is; settles = record { tells = y.rests.tells; settled = y.rests.settled }; due_is = y.due_is; free = free; said = said_goes 16 IsOfFill p q u a l _ fill_neither goes x.may.rests.tells.tells.stands.is y.rests.tells.tells.stands.is y.grows x.said };
       }
 
   pub held_fetch : (busy : Busy) → HasFetched p q h.book book (regime h.arch) h.arch.pc (comes.Busy busy) → h.call ≡ Call.Nothing → FetchesOn (comes.Busy busy) h (record h { book = book }) p q
@@ -105,6 +107,7 @@ module _ (h : Hart) (book : Book) (p q : Shown) (access : CanAccess h.book p) wh
           held = None;
           settles = record { tells = y.may.rests.tells; settled = y.may.rests.settled };
           not_due = y.may.not_due;
+          said = said_goes 16 IsOfFill p q u a l (quietly y.added l) fill_neither goes x.may.rests.tells.tells.stands.is y.may.rests.tells.tells.stands.is y.grows x.said;
           call = call_none h.call h.sent h.arch q a (quietly y.added l) free;
         };
       }

@@ -21,6 +21,7 @@ use Rattle.hart_turn.specs.Logs.{AtCount, AtEnd}
 use Rattle.hart_turn.proofs.Aside.{with_count, with_one}
 use Rattle.hart_turn.proofs.Looks.{call_none}
 use Rattle.hart_turn.proofs.Moving.{not_both}
+use Rattle.hart_turn.proofs.Said.{said_made}
 use Rattle.std.proofs.Common.{None}
 
 less : (n limit : ℕ) → n < limit → n + 1 ≢ limit → n + 1 < limit
@@ -40,6 +41,7 @@ module _ (h : Hart) (p : Shown) (below : h.count < h.limit) (ne : h.count + 1 �
       held = None;
       settles = x.settles;
       not_due = x.due_is ∙ ne_eqb (h.count + 1) u.limit (λ e. ne (e ∙ x.limit_is));
+      said = x.said;
       call = call_none h.call h.sent h.arch p a l x.free;
     };
   }
@@ -59,5 +61,12 @@ module _ (h : Hart) (p q : Shown) (stands : Reason) (set : HasSetStop (Reason.Li
       let y = limits_stand stands p q h.book (regime h.arch) set can.beside.hart nobody (own_of (counted h) None) u a l x.settles due in record {
         late = y.late;
         grows = y.grows;
-        holds = record { limit_is = x.limit_is; held = None; settles = y.settles; not_due = y.not_due; call = call_none h.call h.sent h.arch q a y.late x.free };
+        holds = record {
+          limit_is = x.limit_is;
+          held = None;
+          settles = y.settles;
+          not_due = y.not_due;
+          said = said_made p q Stop (Exchange 0) (reason_word (Reason.Limit p.own.actor)) set.found u a l y.late tt set.exchanges x.settles.tells.tells.stands.is y.settles.tells.tells.stands.is y.grows x.said;
+          call = call_none h.call h.sent h.arch q a y.late x.free;
+        };
       }

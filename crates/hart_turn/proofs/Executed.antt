@@ -1,5 +1,5 @@
 -- An instruction that was executed, given up, or asks for a fence: what goes with its hart behind it.
-use Rattle.std.proofs.Common.{◌≡◌, ◌≢◌, ◌⊎◌, inl, inr, ℕ, ◌+◌, ◌<◌, Bool, true, false, ◌∷◌, None, Some, refl, sym, ap, subst, ◌∙◌}
+use Rattle.std.proofs.Common.{◌≡◌, ◌≢◌, ◌⊎◌, inl, inr, ℕ, ◌+◌, ◌<◌, Bool, true, false, [], ◌∷◌, None, Some, refl, sym, ap, subst, ◌∙◌}
 use Rattle.std.specs.Prelude.{◌==◌, ◌&&◌}
 use Rattle.rv64_decode.specs.Encoding.{Decodes}
 use Rattle.rv64_decode.specs.declared.instruction.Instr.{Instr}
@@ -32,14 +32,15 @@ use Rattle.hart_calls.specs.declared.spans.Span.{Span}
 use Rattle.need_serving.specs.declared.ends.NeedEnd.{NeedEnd}
 use Rattle.need_serving.specs.declared.ends.NeedEnd.TheVariants as ends
 use Rattle.need_serving.specs.Ends.{MayHaveAfter, runs_on}
-use Rattle.need_serving.specs.Serving.{IsOfNeeds, IsServed}
+use Rattle.need_serving.specs.Serving.{HasServed, IsOfNeeds, IsServed}
 use Rattle.turn_pieces.specs.Draws.{may_draw}
-use Rattle.turn_pieces.specs.Grows.{Ends, Part, does, stays}
-use Rattle.turn_pieces.specs.Log.{Log, did}
+use Rattle.turn_pieces.specs.Grows.{Ends, Grows, Part, does, stays}
+use Rattle.turn_pieces.specs.Log.{Log, did, steps_of}
 use Rattle.turn_pieces.proofs.Writers.{ends_then, part_nowhere, part_then}
 use Rattle.tlb_lock.specs.declared.lock.Busy.{Busy}
 use Rattle.access_pieces.specs.Serving.{MayGiveUp, Settles, Wants}
 use Rattle.access_pieces.proofs.GivenUp.{give_ups_stand}
+use Rattle.call_pieces.specs.Idle.{HasSaidLast}
 use Rattle.fetch_pieces.specs.Regimes.{IsAlike}
 use Rattle.fetch_pieces.proofs.Regimes.{fills_agree, tells_agree, trap_alike}
 use Rattle.need_pieces.specs.Laws.{CanServe, IsNoFence}
@@ -54,6 +55,8 @@ use Rattle.hart_turn.specs.Logs.{AtCount, AtEnd}
 use Rattle.hart_turn.specs.Executing.{AfterNeed, AtExecute, ExecutesOn, HasExecuted, after_end, after_unknown, served, trapped_on, with_decoded}
 use Rattle.hart_turn.proofs.Aside.{stand_as}
 use Rattle.hart_turn.proofs.Looks.{call_none, with_arch}
+use Rattle.hart_turn.proofs.Ordinary.{all_counts, served_is}
+use Rattle.hart_turn.proofs.Said.{said_added}
 
 needs_aside : (w : Word) → IsOfNeeds w → IsAside w
 needs_aside Pend t = absurd t
@@ -118,6 +121,12 @@ executed_own h word i answer b = refl
 halted_own : (h : Hart) (word : ℕ) (i : Instr) (b : Book) → h.runs ≡ true → halted (own_of h (Some (record { word = word; instr = Some i }))) ≡ own_of (counted (after_end i b ends.Stopped h)) None
 unfolding own_executed
 halted_own h word i b runs = refl
+
+-- over a need that was served, but where the hart stopped itself
+said_served : (b b' : Book) (c : Arch) (section : Bool) (n : Need) (end : NeedEnd) (p q : Shown) (u : Setup) (a : ℕ) (l late : Log) → HasServed p q b b' c section n end → runs_on end ≡ true → steps_of l ≡ p.own.steps → steps_of late ≡ q.own.steps → Grows u a l late
+    → HasSaidLast a l → HasSaidLast a late
+said_served b b' c section n end p q u a l late done runs before behind g said = let x = served_is p q b b' c section n end done in
+    said_added u a l late x.added p.own.steps (all_counts (runs_on end) x.added runs x.all) before (behind ∙ x.is) g said
 
 module _ (h : Hart) (i : Instr) (n : Need) (section : Bool) (book : Book) (p q : Shown) (can : GoesWith h p) (is : n ≡ need_of h.arch i) (free : h.call ≡ Call.Nothing) where
   module _ (end : NeedEnd) (x : IsServed p q h.book book h.arch section n end) (most : ℕ) (goes : GoesBy most IsOfNeeds p q) (below : h.count < h.limit) where
@@ -190,6 +199,7 @@ module _ (h : Hart) (i : Instr) (n : Need) (section : Bool) (book : Book) (p q :
               settles = subst (λ (o : Own). Settles nobody o q book later u a z.late) (executed_own h word i answer book) z.holds.settles;
               due_is = ap (λ (b : Bool). b && (h.count + 1 == u.limit)) z.holds.counts;
               free = free;
+              said = said_served h.book book h.arch section n (ends.Done answer) p q u a l z.late y.served refl x.rests.tells.tells.stands.is z.holds.settles.tells.tells.stands.is z.grows x.said;
             };
           }
       done_with answer y (inr ne) =
@@ -202,6 +212,7 @@ module _ (h : Hart) (i : Instr) (n : Need) (section : Bool) (book : Book) (p q :
                   (subst (λ (o : Own). Settles nobody o q book (regime h.arch) u a z.late) (executed_own h word i answer book) z.holds.settles);
               due_is = ap (λ (b : Bool). b && (h.count + 1 == u.limit)) z.holds.counts;
               free = free;
+              said = said_served h.book book h.arch section n (ends.Done answer) p q u a l z.late y.served refl x.rests.tells.tells.stands.is z.holds.settles.tells.tells.stands.is z.grows x.said;
             };
           }
 
@@ -213,17 +224,18 @@ module _ (h : Hart) (i : Instr) (n : Need) (section : Bool) (book : Book) (p q :
             holds = record {
               limit_is = x.limit_is;
               settles = settles_alike (own_of (counted (after_end i book ends.Stopped h)) None) book (regime h.arch) (regime (after h.arch i Answer.Nothing)) q u a z.late (alike h.arch i Answer.Nothing (subst (λ m. m ≢ Need.Flush FlushOf.All) is (no_all n y.fits)))
-                  (subst (λ (o : Own). Settles nobody o q book (regime h.arch) u a z.late) (halted_own h word i book running) z.holds.settles);
-              due_is = ap (λ (b : Bool). b && (h.count + 1 == u.limit)) z.holds.counts;
+                  (subst (λ (o : Own). Settles nobody o q book (regime h.arch) u a z.late) (halted_own h word i book running) z.holds.counted.settles);
+              due_is = ap (λ (b : Bool). b && (h.count + 1 == u.limit)) z.holds.counted.counts;
               free = free;
+              said = z.holds.said;
             };
           }
 
       there : a < u.layout.harts
       there = let t = x.rests.tells.tells.stands in subst (λ m. m < u.layout.harts) (sym t.actor) (subst (λ (y : Layout). p.own.actor < y.harts) (sym t.layout) can.beside.hart)
 
-      given : (late : Log) → MayGiveUp nobody (own_of h (Some (record { word = word; instr = Some i }))) q book (regime h.arch) u a late → Ends u a late (AtEnd (record h { book = book }) q u a)
-      given late y =
+      given : (late : Log) → HasSaidLast a late → MayGiveUp nobody (own_of h (Some (record { word = word; instr = Some i }))) q book (regime h.arch) u a late → Ends u a late (AtEnd (record h { book = book }) q u a)
+      given late said y =
           let z = give_ups_stand nobody (own_of h (Some (record { word = word; instr = Some i }))) q book (regime h.arch) u a late refl there y in record {
             late = did (GiveUp a y.walks) ∷ late;
             grows = does (GiveUp a y.walks) stays z.0;
@@ -232,6 +244,7 @@ module _ (h : Hart) (i : Instr) (n : Need) (section : Bool) (book : Book) (p q :
               held = None;
               settles = record { tells = z.1.tells; settled = z.1.settled };
               not_due = uncounted u a late (GiveUp a y.walks) h.count refl refl;
+              said = λ last. inr (said last);
               call = call_none h.call h.sent h.arch q a (did (GiveUp a y.walks) ∷ late) free;
             };
           }
@@ -242,17 +255,18 @@ module _ (h : Hart) (i : Instr) (n : Need) (section : Bool) (book : Book) (p q :
     pub stop_works : IsServed p q h.book book h.arch section n ends.Stopped → ExecutesOn ends.Stopped i h (after_end i book ends.Stopped h) p q
     stop_works y word u a l x = stopped_with word u a l x y
 
-    gives_up : (word : ℕ) (u : Setup) (a : ℕ) (l : Log) (x : AtExecute h (record { word = word; instr = Some i }) p u a l) → (y : Ends u a l (MayGiveUp nobody (own_of h (Some (record { word = word; instr = Some i }))) q book (regime h.arch) u a)) → Ends u a l (AtEnd (record h { book = book }) q u a)
-    gives_up word u a l x y = ends_then u a l y.late (AtEnd (record h { book = book }) q u a) y.grows (given word u a l x y.late y.holds)
+    gives_up : (end : NeedEnd) → HasServed p q h.book book h.arch section n end → runs_on end ≡ true → (word : ℕ) (u : Setup) (a : ℕ) (l : Log) (x : AtExecute h (record { word = word; instr = Some i }) p u a l) → (y : Ends u a l (MayGiveUp nobody (own_of h (Some (record { word = word; instr = Some i }))) q book (regime h.arch) u a)) → Ends u a l (AtEnd (record h { book = book }) q u a)
+    gives_up end done runs word u a l x y = ends_then u a l y.late (AtEnd (record h { book = book }) q u a) y.grows
+        (given word u a l x y.late (said_served h.book book h.arch section n end p q u a l y.late done runs x.rests.tells.tells.stands.is y.holds.tells.tells.stands.is y.grows x.said) y.holds)
 
     pub lost_works : (w seen found : ℕ) → IsServed p q h.book book h.arch section n (ends.Lost w seen found) → ExecutesOn (ends.Lost w seen found) i h (record h { book = book }) p q
-    lost_works w seen found y word u a l x = gives_up word u a l x (log_of word u a l x (ends.Lost w seen found) y tt (regime h.arch) (as_before n (ends.Lost w seen found) (regime h.arch)))
+    lost_works w seen found y word u a l x = gives_up (ends.Lost w seen found) y.served refl word u a l x (log_of word u a l x (ends.Lost w seen found) y tt (regime h.arch) (as_before n (ends.Lost w seen found) (regime h.arch)))
 
     pub section_works : IsServed p q h.book book h.arch section n ends.NeedsSection → ExecutesOn ends.NeedsSection i h (record h { book = book }) p q
-    section_works y word u a l x = gives_up word u a l x (log_of word u a l x ends.NeedsSection y tt (regime h.arch) (as_before n ends.NeedsSection (regime h.arch)))
+    section_works y word u a l x = gives_up ends.NeedsSection y.served refl word u a l x (log_of word u a l x ends.NeedsSection y tt (regime h.arch) (as_before n ends.NeedsSection (regime h.arch)))
 
     pub busy_works : (busy : Busy) → IsServed p q h.book book h.arch section n (ends.Busy busy) → ExecutesOn (ends.Busy busy) i h (record h { book = book }) p q
-    busy_works busy y word u a l x = gives_up word u a l x (log_of word u a l x (ends.Busy busy) y tt (regime h.arch) (as_before n (ends.Busy busy) (regime h.arch)))
+    busy_works busy y word u a l x = gives_up (ends.Busy busy) y.served refl word u a l x (log_of word u a l x (ends.Busy busy) y tt (regime h.arch) (as_before n (ends.Busy busy) (regime h.arch)))
 
   -- a fence makes no step yet
   pub fence_works : (harts : ℕ) (span : Span) → IsServed p q h.book book h.arch section n (ends.Fence harts span) → ExecutesOn (ends.Fence harts span) i h (record h { book = book }) p q
@@ -289,6 +303,7 @@ module _ (h : Hart) (p : Shown) (word : ℕ) (can : GoesWith h p) (free : h.call
               (subst (λ (o : Own). Settles nobody o p h.book (regime h.arch) u a z.late) (unknown_own h word) z.holds.settles);
           due_is = ap (λ (b : Bool). b && (h.count + 1 == u.limit)) z.holds.counts;
           free = free;
+          said = said_added u a l z.late [] p.own.steps tt x.rests.tells.tells.stands.is z.holds.settles.tells.tells.stands.is z.grows x.said;
         };
       }
 
@@ -311,7 +326,7 @@ module _ (h : Hart) (decoded : Entries) (p : Shown) where
   }
 
   words_work : (code : Code) → Part (AtExecute h code p) (AtExecute (with_decoded decoded h) code p)
-  words_work code u a l x = record { late = l; grows = stays; holds = record { limit_is = x.limit_is; rests = x.rests; not_due = x.not_due } }
+  words_work code u a l x = record { late = l; grows = stays; holds = record { limit_is = x.limit_is; rests = x.rests; not_due = x.not_due; said = x.said } }
 
   pub words_then : (code : Code) (Q : Setup → ℕ → Log → Type 0) → Part (AtExecute (with_decoded decoded h) code p) Q → Part (AtExecute h code p) Q
   words_then code Q part = part_then (AtExecute h code p) (AtExecute (with_decoded decoded h) code p) Q (words_work code) part

@@ -40,6 +40,8 @@ use Rattle.hart_turn.specs.Logs.{AtCount, AtWork, IsCallIn, IsFenceIn, WorksOn}
 use Rattle.hart_turn.proofs.Calls.{call_succeeds}
 use Rattle.hart_turn.proofs.Fenced.{fence_of}
 use Rattle.hart_turn.proofs.Moving.{not_both}
+use Rattle.hart_turn.proofs.Draws.{fence_neither}
+use Rattle.hart_turn.proofs.Said.{said_goes}
 
 -- what its success makes of the hart
 succeeds : (h : Hart) (held : Option Code) → need_held h.arch held ≡ Need.Sbi → own_executed (only (Answer.Pair (pos 0) 0)) (own_of h held) ≡ own_of (counted (record h { arch = succeeded h.arch })) None
@@ -91,6 +93,7 @@ module _ (n : ℕ) (h : Hart) (p q : Shown) (harts : ℕ) (span : Span) (fence :
             held = x.ends.held;
             settles = record { tells = y.rests.tells; settled = y.rests.settled };
             not_due = y.not_due;
+            said = said_goes n IsOfFence p q u a l y.late fence_neither goes x.ends.settles.tells.tells.stands.is y.rests.tells.tells.stands.is y.grows x.ends.said;
             call = record {
               code = fenced_in.code;
               holds = fenced_in.holds;
@@ -123,6 +126,7 @@ module _ (n : ℕ) (h : Hart) (p q : Shown) (harts : ℕ) (span : Span) (fence :
                 settles = subst (λ (o : Own). Settles nobody o q book (regime h.arch) u a (did (executed a) ∷ y.late)) (succeeds h x.ends.held fenced_in.need_is) k.settles;
                 due_is = ap (λ (b : Bool). b && (h.count + 1 == u.limit)) k.counts;
                 free = refl;
+                said = said_goes n IsOfFence p q u a l (did (executed a) ∷ y.late) fence_neither goes x.ends.settles.tells.tells.stands.is y.rests.tells.tells.stands.is (grows_then u a l y.late y.grows k.grows) x.ends.said;
               };
             }
 
@@ -171,6 +175,7 @@ module _ (h : Hart) (harts : ℕ) (span : Span) (p : Shown) where
       held = Some code;
       settles = record { tells = x.rests.tells; settled = x.rests.settled };
       not_due = x.not_due;
+      said = x.said;
       call = record {
         code = code;
         holds = refl;

@@ -1,22 +1,31 @@
 -- An instruction from its look at interrupts to its count: the parts of its log, one behind another.
-use Rattle.std.proofs.Common.{◌≡◌, ℕ, true, false, refl, ap, ◌∙◌}
+use Rattle.std.proofs.Common.{◌≡◌, ℕ, true, false, refl, ap, subst, ◌∙◌}
 use Rattle.std.specs.Prelude.{Option}
 use Rattle.rv64_decode.specs.declared.instruction.Instr.{Instr}
 use Rattle.rv64_priv.specs.State.{Arch}
 use Rattle.rv64_exec.specs.Plan.{need_of, need_of_code}
 use Rattle.rv64_exec.specs.declared.needs.Answer.{Answer}
 use Rattle.rv64_exec.specs.declared.needs.Need.{Need}
-use Rattle.guest_ram.specs.Ports.{Shown}
+use Rattle.rv64_priv.specs.Csr.{regime}
+use Rattle.guest_ram.specs.Areas.{IsOfCalls}
+use Rattle.guest_ram.specs.Ports.{GoesBy, Shown}
+use Rattle.tlb_fill.specs.Stepping.{IsOfFill}
 use Rattle.hart_calls.specs.declared.spans.Span.{Span}
 use Rattle.need_serving.specs.declared.ends.NeedEnd.TheVariants as ends
 use Rattle.turn_pieces.specs.Grows.{Part}
 use Rattle.turn_pieces.proofs.Writers.{grows_then, part_then}
+use Rattle.code_fetch.specs.declared.fetching.Fetched.{Fetched}
 use Rattle.code_fetch.specs.declared.fetching.Fetched.TheVariants as comes
+use Rattle.code_fetch.specs.Fetching.{HasFetched}
+use Rattle.hart_turn.specs.declared.ends.TurnEnd.{TurnEnd}
 use Rattle.hart_turn.specs.declared.hart.Hart.{Hart}
-use Rattle.hart_turn.specs.Executing.{AtExecute, FetchesOn, HasDone, HasEndedWord, HasExecuted, served}
+use Rattle.hart_turn.specs.Executing.{AtExecute, FetchesOn, HasDone, HasEndedWord, HasExecuted, after_fetch, served}
 use Rattle.hart_turn.specs.Fences.{BeginsCall}
-use Rattle.hart_turn.specs.Harts.{counted, wanting}
+use Rattle.hart_turn.specs.Harts.{GoesWith, counted, wanting}
 use Rattle.hart_turn.specs.Logs.{AtCount, AtEnd, AtFetch, AtWork, LooksOn, WorksOn, WorksToEnd}
+use Rattle.hart_turn.specs.Parts.{HasLooked, after_look}
+use Rattle.hart_turn.specs.Paths as paths
+use Rattle.hart_turn.specs.Paths.{HasInstructed, HasMadeOf}
 use Rattle.hart_turn.proofs.Sides.{part_still}
 
 -- a hart at work is at the end of its work
@@ -78,3 +87,16 @@ module _ (h j k : Hart) (p q r : Shown) (looks : LooksOn false h j p q) where
 
   pub then_faults : (cause tval : ℕ) (m : Hart) (s : Shown) → FetchesOn (comes.Fault cause tval) j k q r → Part (AtCount (counted k) r) (AtEnd m s) → WorksToEnd h m p s
   then_faults cause tval m s fetches part = then_fetches m s (part_then (AtFetch j q) (AtCount (counted k) r) (AtEnd m s) fetches part)
+
+-- a word was fetched, or not, and then that was done
+pub instructed : (h j m k : Hart) (p asked mid q : Shown) (found : Fetched) (end : TurnEnd) → j ≡ after_look false h → HasLooked false h p asked → GoesBy 1 IsOfCalls p asked → HasFetched asked mid j.book m.book (regime j.arch) j.arch.pc found
+    → m ≡ after_fetch found m.book j → GoesBy 16 IsOfFill asked mid → GoesWith m mid → HasMadeOf m k mid q found end → HasInstructed h k p q end
+instructed h j m k p asked mid q found end still looked looks fetched is fetches with made = paths.fetched found end m mid (record {
+  asked = asked;
+  looked = looked;
+  looks = looks;
+  fetched = subst (λ (z : Hart). HasFetched asked mid z.book m.book (regime z.arch) z.arch.pc found) still fetched;
+  fetches = fetches;
+  is = is ∙ ap (after_fetch found m.book) still;
+  with = with;
+}) made

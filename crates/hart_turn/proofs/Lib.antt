@@ -1,4 +1,6 @@
 mod Aside
+mod Said
+mod Ordinary
 mod Draws
 mod Sides
 mod Moving
@@ -12,6 +14,8 @@ mod Coded
 mod Executed
 mod Instructed
 mod Turned
+mod Pathed
+mod Bounded
 mod First
 mod Asked
 mod Calls

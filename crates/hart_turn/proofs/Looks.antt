@@ -24,6 +24,7 @@ use Rattle.hart_turn.specs.Harts.{GoesWith, IsCallOf, own_of}
 use Rattle.hart_turn.specs.Logs.{AtWork, IsCallIn, LooksOn}
 use Rattle.hart_turn.specs.Parts.{after_look}
 use Rattle.hart_turn.proofs.Aside.{with_step}
+use Rattle.hart_turn.proofs.Said.{said_made}
 
 -- a hart with no call in progress holds no word
 pub holds_none : (call : Call) (sent : Sent) (c : Arch) (p : Shown) (held : Option Code) (a : ℕ) (l : Log) → call ≡ Call.Nothing → IsCallIn call sent c p held a l → held ≡ None
@@ -70,6 +71,7 @@ module _ (h : Hart) (p q : Shown) (found : ℕ) (m : Made p q Ipi Load 0 found) 
             held = x.ends.held;
             settles = y.settles;
             not_due = y.not_due;
+            said = said_made p q Ipi Load 0 found u a l y.late tt m x.ends.settles.tells.tells.stands.is y.settles.tells.tells.stands.is y.grows x.ends.said;
             call = subst (λ (z : Option Code). IsCallIn h.call h.sent (trapped h.arch software_interrupt 0) q z a y.late) (sym (free u a l x).holds_none) (call_none h.call h.sent (trapped h.arch software_interrupt 0) q a y.late nothing);
           };
         }
@@ -79,5 +81,5 @@ module _ (h : Hart) (p q : Shown) (found : ℕ) (m : Made p q Ipi Load 0 found) 
         let y = looks_let_fetch p q h.book h.arch found m (ap (λ n. is_pending h.arch n found) (sym can.number) ∙ unasked) nobody (own_of h x.ends.held) u a l (free u a l x) (rests u a l x) x.ends.not_due in record {
           late = y.0;
           grows = y.1;
-          holds = record { limit_is = x.ends.limit_is; may = subst (λ (z : Option Code). MayFetch nobody (own_of h z) q h.book h.arch u a y.0) (free u a l x).holds_none y.2 };
+          holds = record { limit_is = x.ends.limit_is; may = subst (λ (z : Option Code). MayFetch nobody (own_of h z) q h.book h.arch u a y.0) (free u a l x).holds_none y.2; said = said_made p q Ipi Load 0 found u a l y.0 tt m x.ends.settles.tells.tells.stands.is y.2.rests.tells.tells.stands.is y.1 x.ends.said };
         }

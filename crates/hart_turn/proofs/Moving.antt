@@ -23,6 +23,7 @@ use Rattle.hart_turn.specs.Harts.{GoesWith, IsStill, StandsBy, gone_in, is_made,
 use Rattle.hart_turn.specs.Logs.{AtEnd, AtWork, Finishes}
 use Rattle.hart_turn.specs.Parts.{IsOfLeaving}
 use Rattle.hart_turn.proofs.Aside.{claims_sides, section_sides, stand_as}
+use Rattle.hart_turn.proofs.Draws.{IsNeither}
 use Rattle.hart_turn.proofs.Sides.{Goes, ends_on, part_still, sides_go}
 
 pub not_both : (b : Bool) → b ≡ false → b ≡ true → ⊥
@@ -107,7 +108,7 @@ restands h k p still = part_still (AtEnd h p) h k p still (part_nowhere (AtEnd h
 
 -- its last step
 pub signs : (h : Hart) (p q : Shown) → HasSignedOff p q → Finishes h h p q
-signs h p q m = ends_on 1 (λ v. v ≡ Done p.own.actor) h p q (λ v e. subst IsOffTable (sym e) tt) (λ v e. ap is_other e) (goes_one p q (Done p.own.actor) Store 1 0 m)
+signs h p q m = ends_on 1 (λ v. v ≡ Done p.own.actor) h p q (λ v e. subst IsOffTable (sym e) tt) (λ v e. ap is_other e) (λ v e. subst IsNeither (sym e) tt) (goes_one p q (Done p.own.actor) Store 1 0 m)
     (subst (λ v. IsCalm v Store 0) (sym m.name) tt, subst (λ v. IsPlain p.own.actor v Store) (sym m.name) tt, tt)
 
 pub called_goes : (found : ℕ) (p m q : Shown) → HasFoundKick found p m → HasLeft m q → GoesBy 2 IsOfSides p q

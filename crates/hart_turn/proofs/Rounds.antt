@@ -39,6 +39,8 @@ use Rattle.hart_turn.specs.Harts.{GoesWith, own_of}
 use Rattle.hart_turn.specs.Logs.{AtEnd, AtWork, WorksOn}
 use Rattle.hart_turn.specs.Parts.{IsOfRequests}
 use Rattle.hart_turn.proofs.Aside.{IsNoEnd, call_goes, fills_goes, stand_as, stop_goes}
+use Rattle.hart_turn.proofs.Draws.{requests_neither}
+use Rattle.hart_turn.proofs.Said.{said_goes}
 use Rattle.hart_turn.proofs.Sides.{call_behind}
 
 -- flushes are no fetches
@@ -158,6 +160,7 @@ module _ (n : ℕ) (h : Hart) (book : Book) (served : Served) (p q : Shown) (goe
             held = x.held;
             settles = record { tells = y.rests.rests.tells; settled = y.rests.rests.settled };
             not_due = y.rests.not_due;
+            said = said_goes n IsOfService p q u a l y.late (λ w s. requests_neither w (service_requests w s)) goes x.settles.tells.tells.stands.is y.rests.rests.tells.tells.stands.is y.grows x.said;
             call = call_behind n IsOfService h.call h.sent h.arch p q x.held a l y.late goes (grown_is_behind u a l y.late (added a) y.grows y.events_are (fetchless a)) x.call;
           };
           idle = y.rests.rests.idle;

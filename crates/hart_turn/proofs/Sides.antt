@@ -34,6 +34,8 @@ use Rattle.hart_turn.specs.declared.hart.Call.{Call}
 use Rattle.hart_turn.specs.declared.hart.Hart.{Hart}
 use Rattle.hart_turn.specs.Harts.{GoesWith, IsStill, StandsBy, own_of}
 use Rattle.hart_turn.specs.Logs.{AtEnd, Finishes, IsCallIn, WorksOn}
+use Rattle.hart_turn.proofs.Draws.{IsNeither, sides_neither}
+use Rattle.hart_turn.proofs.Said.{said_goes}
 use Rattle.hart_turn.proofs.Aside.{sides_no_end, sides_no_place, sides_off_states, stop_goes, with_goes}
 
 -- a call in progress is in a log behind, with no fetch between, as it was
@@ -51,13 +53,13 @@ call_behind n A (Call.Fence harts span fence) sent c p q held a l late goes behi
 
 -- a hart that stands elsewhere is the same in its log
 pub end_still : (h k : Hart) (p : Shown) (u : Setup) (a : ℕ) (l : Log) → IsStill h k → AtEnd h p u a l → AtEnd k p u a l
-end_still h k p u a l still x = subst (λ (z : Hart). AtEnd z p u a l) (sym still) (record { limit_is = x.limit_is; held = x.held; settles = x.settles; not_due = x.not_due; call = x.call })
+end_still h k p u a l still x = subst (λ (z : Hart). AtEnd z p u a l) (sym still) (record { limit_is = x.limit_is; held = x.held; settles = x.settles; not_due = x.not_due; said = x.said; call = x.call })
 
 pub part_still : (P : Setup → ℕ → Log → Type 0) (h k : Hart) (q : Shown) → IsStill h k → Part P (AtEnd h q) → Part P (AtEnd k q)
 part_still P h k q still part u a l x = let y = part u a l x in record { late = y.late; grows = y.grows; holds = end_still h k q u a y.late still y.holds }
 
 -- steps that need no event, off the table, behind its work
-module _ (most : ℕ) (A : Word → Type 0) (h : Hart) (p q : Shown) (off : (w : Word) → A w → IsOffTable w) (unmarked : (w : Word) → A w → is_other w ≡ true) (goes : GoesBy most A p q) (calm : AreCalm p.own.actor goes.added) where
+module _ (most : ℕ) (A : Word → Type 0) (h : Hart) (p q : Shown) (off : (w : Word) → A w → IsOffTable w) (unmarked : (w : Word) → A w → is_other w ≡ true) (neither : (w : Word) → A w → IsNeither w) (goes : GoesBy most A p q) (calm : AreCalm p.own.actor goes.added) where
   all_on : (r : List Step) → AreAllowed A p r → AreOn A r
   all_on [] k = tt
   all_on (s ∷ r) k = (k.0.0, all_on r k.1)
@@ -87,6 +89,7 @@ module _ (most : ℕ) (A : Word → Type 0) (h : Hart) (p q : Shown) (off : (w :
             settled = λ page free. unmarked_quietly u a page goes.added l (all_unmarked goes.added goes.allowed) ∙ x.settles.settled page free;
           };
           not_due = ap (λ (run : List Event). is_due u.limit run a h.count) (events_quietly goes.added l) ∙ x.not_due;
+          said = said_goes most A p q u a l late neither goes t.stands.is (quietly_tells A most (own_of h x.held) (view p) (view q) u a l quiet t).stands.is (quietly_grows u a goes.added l own t.clear t.none_drawn) x.said;
           call = call_behind most A h.call h.sent h.arch p q x.held a l late goes (quiet_behind a goes.added l) x.call;
         };
       }
@@ -114,6 +117,7 @@ module _ (most : ℕ) (h k : Hart) (p q : Shown) (can : GoesWith h p) (goes : Go
             held = e.held;
             settles = record { tells = y.rests.tells; settled = y.rests.settled };
             not_due = y.not_due;
+            said = said_goes most IsOfSides p q u a l late sides_neither goes e.settles.tells.tells.stands.is y.rests.tells.tells.stands.is y.grows e.said;
             call = call_behind most IsOfSides h.call h.sent h.arch p q e.held a l late goes y.behind e.call;
           });
           idle = y.rests.idle;
@@ -121,7 +125,7 @@ module _ (most : ℕ) (h k : Hart) (p q : Shown) (can : GoesWith h p) (goes : Go
       }
 
   ends_sides : Finishes h k p q
-  ends_sides = part_still (AtEnd h p) h k q still (ends_on most IsOfSides h p q sides_off sides_unmarked goes (all_calm p goes.added goes.allowed))
+  ends_sides = part_still (AtEnd h p) h k q still (ends_on most IsOfSides h p q sides_off sides_unmarked sides_neither goes (all_calm p goes.added goes.allowed))
 
   pub sides_go : StandsBy k q → Goes h k p q
   sides_go stands = record { with = with_sides stands; works = works_sides; ends = ends_sides }

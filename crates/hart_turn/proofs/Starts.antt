@@ -39,6 +39,8 @@ use Rattle.hart_turn.specs.Logs.{AtEnd, AtWork, IsCallIn, WorksToEnd}
 use Rattle.hart_turn.specs.Parts.{HasStarted, waits}
 use Rattle.hart_turn.proofs.Aside.{IsNoEnd, fills_goes, stand_as, stop_goes}
 use Rattle.hart_turn.proofs.Looks.{call_none, holds_none}
+use Rattle.hart_turn.proofs.Draws.{start_neither}
+use Rattle.hart_turn.proofs.Said.{said_goes}
 
 pub stopped_of : (o : Option Start) (p q : Shown) (b b' : Book) → o ≡ None → IfNone o (HasFoundStopped p q b b') → HasFoundStopped p q b b'
 stopped_of o p q b b' is x = subst (λ z. IfNone z (HasFoundStopped p q b b')) is x
@@ -181,6 +183,7 @@ module _ (n : ℕ) (h : Hart) (p q : Shown) (goes : GoesBy n IsOfStart p q) (can
         held = x.ends.held;
         settles = record { tells = y.rests.tells; settled = y.rests.settled };
         not_due = y.not_due;
+        said = said_goes n IsOfStart p q u a l (quietly y.added l) start_neither goes x.ends.settles.tells.tells.stands.is y.rests.tells.tells.stands.is y.grows x.ends.said;
         call = subst (λ (z : Option Code). IsCallIn h.call h.sent h.arch q z a (quietly y.added l)) (sym none) (call_none h.call h.sent h.arch q a (quietly y.added l) nothing);
       };
     }
@@ -198,6 +201,7 @@ module _ (n : ℕ) (h : Hart) (p q : Shown) (goes : GoesBy n IsOfStart p q) (can
             held = x.ends.held;
             settles = t.settles;
             not_due = t.not_due;
+            said = said_goes n IsOfStart p q u a l t.late start_neither goes x.ends.settles.tells.tells.stands.is t.settles.tells.tells.stands.is t.grows x.ends.said;
             call = subst (λ (d : Option Code). IsCallIn h.call h.sent c q d a t.late) (sym none) (call_none h.call h.sent c q a t.late nothing);
           };
         }

@@ -20,6 +20,7 @@ use Rattle.code_fetch.specs.declared.fetching.Fetched.TheVariants as comes
 use Rattle.turn_pieces.specs.Grows.{Part}
 use Rattle.turn_pieces.specs.Log.{Log}
 use Rattle.access_pieces.specs.Serving.{Rests}
+use Rattle.call_pieces.specs.Idle.{HasSaidLast}
 use Rattle.table_pieces.specs.Flushing.{IsNotDue}
 use Rattle.signal_pieces.specs.Signalling.{nobody}
 use Rattle.hart_turn.specs.declared.hart.Hart.{Hart}
@@ -36,6 +37,7 @@ pub record AtExecute (h : Hart) (code : Code) (p : Shown) (u : Setup) (a : ℕ) 
   pub limit_is : u.limit ≡ h.limit
   pub rests : Rests nobody (own_of h (Some code)) p h.book (regime h.arch) u a l
   pub not_due : IsNotDue (own_of h (Some code)) u a l
+  pub said : HasSaidLast a l
 
 -- a word is held, whatever it decodes as; a fault is counted; where the lock was found held the turn's work is at its end
 abbrev pub FetchesOn : Fetched → (h k : Hart) (p q : Shown) → Type 0

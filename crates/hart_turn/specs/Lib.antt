@@ -4,3 +4,4 @@ pub mod Logs
 pub mod Parts
 pub mod Executing
 pub mod Turning
+pub mod Paths

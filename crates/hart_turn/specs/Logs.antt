@@ -17,6 +17,7 @@ use Rattle.turn_pieces.specs.Grows.{Ends, LooksAtStop, Part}
 use Rattle.turn_pieces.specs.Log.{Log, events_of, made, steps_of}
 use Rattle.turn_pieces.specs.Owed.{nothing, owed}
 use Rattle.access_pieces.specs.Serving.{Settles}
+use Rattle.call_pieces.specs.Idle.{HasSaidLast}
 use Rattle.table_pieces.specs.Flushing.{IsNotDue}
 use Rattle.fence_pieces.specs.Behind.{IsBehind}
 use Rattle.fence_pieces.specs.Owning.{AreFlushedUpTo}
@@ -42,12 +43,14 @@ abbrev pub IsCallIn : Call → Sent → Arch → Shown → (held : Option Code) 
 IsCallIn Call.Nothing sent c p held a l = held ≡ None
 IsCallIn (Call.Fence harts span fence) sent c p held a l = IsFenceIn harts span fence sent c p held a l
 
--- The log tells of the hart and its port, with nothing open and no mark that waits for its store; the hart isn't to stop at its limit
+-- The log tells of the hart and its port, with nothing open and no mark that waits for its store; the hart isn't to stop at its limit, and where it
+-- stopped as the last one that is said
 pub record AtEnd (h : Hart) (p : Shown) (u : Setup) (a : ℕ) (l : Log) : Type 0 where
   pub limit_is : u.limit ≡ h.limit
   pub held : Option Code
   pub settles : Settles nobody (own_of h held) p h.book (regime h.arch) u a l
   pub not_due : IsNotDue (own_of h held) u a l
+  pub said : HasSaidLast a l
   pub call : IsCallIn h.call h.sent h.arch p held a l
 
 -- and its last step owes no event
@@ -59,6 +62,7 @@ pub record AtWork (h : Hart) (p : Shown) (u : Setup) (a : ℕ) (l : Log) : Type 
 pub record AtFetch (h : Hart) (p : Shown) (u : Setup) (a : ℕ) (l : Log) : Type 0 where
   pub limit_is : u.limit ≡ h.limit
   pub may : MayFetch nobody (own_of h None) p h.book h.arch u a l
+  pub said : HasSaidLast a l
 
 -- each log of the hart at work goes on to one of it at work, as it is then
 abbrev pub WorksOn : (h k : Hart) (p q : Shown) → Type 0
@@ -101,3 +105,4 @@ pub record AtCount (h : Hart) (p : Shown) (u : Setup) (a : ℕ) (l : Log) : Type
   pub settles : Settles nobody (own_of h None) p h.book (regime h.arch) u a l
   pub due_is : is_due u.limit (events_of l) a h.count ≡ (h.count == u.limit)
   pub free : h.call ≡ Call.Nothing
+  pub said : HasSaidLast a l

@@ -1,5 +1,5 @@
 -- What the parts of a turn do, step by step.
-use Rattle.std.specs.Prelude.{◌≡◌, ◌≢◌, ℕ, ◌+◌, Bool, true, false}
+use Rattle.std.specs.Prelude.{◌≡◌, ◌≢◌, ◌⊎◌, ℕ, ◌+◌, Bool, true, false}
 use Rattle.step_laws.specs.Words.{monitor}
 use Rattle.step_laws.specs.declared.steps.WordOp.TheVariants.{Load}
 use Rattle.step_laws.specs.Map.{Word, Done, Ipi, Kick, Stop}
@@ -39,11 +39,10 @@ pub data HasToWait (seen : Seen) (h k : Hart) (p q : Shown) : Type 0 where
   other_stays : h.claim ≡ Claim.Made → k ≡ h → HasFoundInside seen p q → HasToWait seen h k p q
   claimed_first : (mid : Shown) → h.claim ≡ Claim.Wanted → k ≡ with_claim Claim.Made h → HasClaimed p mid → HasFoundInside seen mid q → HasToWait seen h k p q
 
--- outside, nothing is done; inside the quantum falls by one, and with its last the hart leaves
-pub data HasSpent (h k : Hart) (p q : Shown) : Type 0 where
-  was_outside : h.inside ≡ false → k ≡ h → q ≡ p → HasSpent h k p q
-  has_more : h.inside ≡ true → k.quantum + 1 ≡ h.quantum → k ≡ record h { quantum = k.quantum } → q ≡ p → HasSpent h k p q
-  had_one : h.inside ≡ true → h.quantum ≡ 1 → k ≡ record h { inside = false; quantum = 0 } → HasLeft p q → HasSpent h k p q
+-- the quantum falls by one, and with its last, or where the hart isn't to stay, it leaves
+pub data HasSpent (stays : Bool) (h k : Hart) (p q : Shown) : Type 0 where
+  remained : stays ≡ true → h.quantum ≢ 1 → k.quantum + 1 ≡ h.quantum → k ≡ record h { quantum = k.quantum } → q ≡ p → HasSpent stays h k p q
+  left : (stays ≡ false) ⊎ (h.quantum ≡ 1) → k.quantum + 1 ≡ h.quantum → k ≡ record h { inside = false; quantum = k.quantum } → HasLeft p q → HasSpent stays h k p q
 
 -- the section was given back where it was claimed
 pub data HasGivenBack (h k : Hart) (p q : Shown) : Type 0 where

@@ -2,12 +2,14 @@
 ghost use Rattle.std.specs.Prelude.{◌≡◌, ◌<◌, true};
 ghost use Rattle.step_laws.specs.Sections.{IsInSection, MayTouch};
 ghost use Rattle.guest_ram.specs.Ports.{layout_of};
+ghost use Rattle.code_fetch.specs.declared.fetching.Fetched.TheVariants as comes;
 ghost use Rattle.turn_pieces.specs.Draws.{may_draw};
 ghost use Rattle.turn_pieces.specs.Grows.{Part};
 ghost use Rattle.hart_turn.specs.declared.hart.Call.{Call as TheCall};
 ghost use Rattle.hart_turn.specs.Harts.{GoesWith, is_made};
 ghost use Rattle.hart_turn.specs.Executing.{HasEndedWord};
 ghost use Rattle.hart_turn.specs.Logs.{WorksToEnd};
+ghost use Rattle.hart_turn.specs.Paths.{HasInstructed, HasMadeOf, HasResumed, end_of};
 ghost use Rattle.hart_turn.specs.Turning.{IsGoingOn};
 
 use crate::counting::count_up;
@@ -30,7 +32,8 @@ const WAIT_FOR_INTERRUPT: u32 = 0x1050_0073;
 
 /// How a turn ends in which this word was executed with this answer.
 fn end_of(word: u32, answer: &Answer) -> TurnEnd
-    ensures { IsGoingOn result }
+    ensures end { result ≡ end_of word answer.now }
+    ensures going { IsGoingOn result }
 {
     match answer {
         Answer::Fault { .. } => TurnEnd::Trapped,
@@ -50,6 +53,7 @@ pub(crate) fn resume<P: Port>(
     requires with { GoesWith hart.old (P.shows port.old) }
     requires call { hart.old.call ≡ TheCall.Fence harts span fence }
     requires below { hart.old.count < hart.old.limit }
+    ensures path { HasResumed harts span fence hart.old hart.new (P.shows port.old) (P.shows port.new) result }
     ensures stays { hart.new.inside ≡ hart.old.inside }
     ensures going { IsGoingOn result }
     ensures with { GoesWith hart.new (P.shows port.new) }
@@ -73,6 +77,7 @@ fn carry_out<P: Port>(hart: &mut Hart, port: &mut P, word: u32) -> TurnEnd
     requires touch { MayTouch (layout_of (P.shows port.old)) (P.shows port.old).own.actor (P.shows port.old).own.steps }
     requires alone { is_made hart.old.claim ≡ true → IsInSection (layout_of (P.shows port.old)) (P.shows port.old).own.actor (P.shows port.old).own.steps }
     requires draws { may_draw (P.shows port.old).own.steps ≡ true }
+    ensures path { HasMadeOf hart.old hart.new (P.shows port.old) (P.shows port.new) (comes.Word word) result }
     ensures going { IsGoingOn result }
     ensures with { GoesWith hart.new (P.shows port.new) }
     ensures ended { HasEndedWord word hart.old hart.new (P.shows port.old) (P.shows port.new) }
@@ -113,6 +118,7 @@ pub(crate) fn instruct<P: Port>(hart: &mut Hart, port: &mut P) -> TurnEnd
     requires touch { MayTouch (layout_of (P.shows port.old)) (P.shows port.old).own.actor (P.shows port.old).own.steps }
     requires alone { is_made hart.old.claim ≡ true → IsInSection (layout_of (P.shows port.old)) (P.shows port.old).own.actor (P.shows port.old).own.steps }
     requires draws { may_draw (P.shows port.old).own.steps ≡ true }
+    ensures path { HasInstructed hart.old hart.new (P.shows port.old) (P.shows port.new) result }
     ensures going { IsGoingOn result }
     ensures with { GoesWith hart.new (P.shows port.new) }
     ensures part { WorksToEnd hart.old hart.new (P.shows port.old) (P.shows port.new) }

@@ -12,24 +12,22 @@ use exclusive::{leave, release};
 use guest_ram::Port;
 use hart_signals::sign_off;
 
-/// Counts an instruction of a hart inside: with the last of its quantum it leaves.
-pub(crate) fn spend<P: Port>(hart: &mut Hart, port: &mut P)
+/// Counts an instruction of a hart inside: with the last of its quantum it leaves, and where it isn't to stay.
+pub(crate) fn spend<P: Port>(hart: &mut Hart, port: &mut P, stays: bool)
     requires with { GoesWith hart.old (P.shows port.old) }
-    ensures spent { HasSpent hart.old hart.new (P.shows port.old) (P.shows port.new) }
+    requires inside { hart.old.inside ≡ true }
+    ensures spent { HasSpent stays hart.old hart.new (P.shows port.old) (P.shows port.new) }
     ensures with { GoesWith hart.new (P.shows port.new) }
     ensures part { Finishes hart.old hart.new (P.shows port.old) (P.shows port.new) }
     ensures goes { GoesBy 1 IsOfSides (P.shows port.old) (P.shows port.new) }
 {
-    if !hart.inside {
-        return;
-    }
-    if hart.quantum != 1 {
+    if stays && hart.quantum != 1 {
         hart.quantum -= 1;
         return;
     }
     leave(port);
     hart.inside = false;
-    hart.quantum = 0;
+    hart.quantum -= 1;
 }
 
 /// Gives the section back where it is claimed. The hart wants it no longer.

@@ -1,4 +1,4 @@
-//! The parts of a hart's turn: how it begins, goes in or alone, serves requests, goes on with a fence, starts, takes interrupts, and leaves.
+//! A hart's turn: it begins, goes in or alone, serves requests, goes on with a fence, starts, takes interrupts, makes an instruction, and leaves.
 #![tactic(auto)]
 
 mod beginning;
@@ -20,6 +20,7 @@ mod turning;
 pub use ends::{Anew, TurnEnd, Wait4};
 pub use guest_boot::boot;
 pub use hart::{Call, Claim, Hart};
+pub use turning::turn;
 
 #[cfg(test)]
 mod tests;

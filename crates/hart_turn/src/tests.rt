@@ -136,7 +136,10 @@ fn spend_some<P: Port>(hart: &mut Hart, port: &mut P, count: u8) -> bool
         return false;
     }
     for _ in 0..count {
-        spend(hart, port);
+        if !hart.inside {
+            return true;
+        }
+        spend(hart, port, true);
     }
     true
 }

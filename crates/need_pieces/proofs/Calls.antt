@@ -1,5 +1,5 @@
 -- Calls in their hart's log, whatever they ask for.
-use Rattle.std.proofs.Common.{◌≡◌, ◌≢◌, ℕ, ◌<◌, Bool, true, false, not, List, [], ◌∷◌, refl, sym, ap, subst, ◌∙◌, ⊎_elim, arith}
+use Rattle.std.proofs.Common.{◌≡◌, ◌≢◌, ℕ, ◌<◌, Bool, true, false, true≢false, not, List, [], ◌∷◌, refl, sym, ap, subst, ◌∙◌, ⊎_elim, arith}
 use Rattle.std.proofs.lemmas.Bool.{cases_eq}
 use Rattle.std.proofs.lemmas.Nat.{le_or_l, pow_pos}
 use Rattle.std.specs.Prelude.{◌^◌, Some}
@@ -19,7 +19,7 @@ use Rattle.machine_model.specs.State.{Setup}
 use Rattle.guest_ram.specs.Ports.{Shown, GoesBy, layout_of}
 use Rattle.tlb_entry.specs.declared.books.Book.{Book}
 use Rattle.turn_pieces.specs.Draws.{may_draw}
-use Rattle.turn_pieces.specs.Grows.{Ends, stays}
+use Rattle.turn_pieces.specs.Grows.{Ends, Grows, stays}
 use Rattle.turn_pieces.specs.Doing.{IsQuiet}
 use Rattle.turn_pieces.specs.Log.{Log, did}
 use Rattle.turn_pieces.specs.Right.{AreFenced}
@@ -30,7 +30,7 @@ use Rattle.hart_calls.specs.declared.asking.Asked.{Asked}
 use Rattle.hart_calls.specs.declared.outcomes.SbiEnd.{SbiEnd}
 use Rattle.hart_calls.specs.declared.spans.Span.{Span}
 use Rattle.hart_calls.specs.Asked.{IsAsked}
-use Rattle.hart_calls.specs.Called.{HasDone, HasNamed, HasWritten, IsOfHartCalls, all_put, fills, found_full, is_own, needs_section, no_byte, none_named, put, refused, some_named, started, stopped, stopped_last}
+use Rattle.hart_calls.specs.Called.{HasDone, HasLeft, HasNamed, HasWritten, IsOfHartCalls, all_put, fills, found_full, is_own, needs_section, no_byte, none_named, put, refused, some_named, started, stopped, stopped_last}
 use Rattle.hart_calls.specs.Ends.{runs_on, succeeds}
 use Rattle.hart_calls.specs.Spans.{flush_of}
 use Rattle.hart_calls.specs.States.{IsRunner, mode_found}
@@ -40,10 +40,10 @@ use Rattle.call_pieces.specs.Idle.{Called, Idles}
 use Rattle.call_pieces.specs.Laws.{IsServed}
 use Rattle.call_pieces.proofs.Placing.{did_is, flush_as, rested}
 use Rattle.call_pieces.proofs.Printed.{bytes_served}
-use Rattle.call_pieces.proofs.Served.{calls_served, own_starts_served}
+use Rattle.call_pieces.proofs.Served.{calls_served, own_starts_served, stops_said}
 use Rattle.need_serving.specs.declared.ends.NeedEnd.{NeedEnd}
 use Rattle.need_serving.specs.Ends.{end_of_call}
-use Rattle.need_pieces.specs.Serving.{IsServedIn}
+use Rattle.need_pieces.specs.Serving.{IsServedIn, Stopped, halted}
 use Rattle.need_pieces.specs.Laws.{IsNoFence}
 use Rattle.need_pieces.proofs.Alone.{exec_fit}
 use Rattle.need_pieces.proofs.Executed.{answer_is, executed_by, stops_is}
@@ -149,15 +149,14 @@ module _ (p q : Shown) where
 module _ (others : ℕ → Bool) (o : Own) (p q : Shown) (b : Book) (c : Arch) (section : Bool) (runner : IsRunner p) (may : may_draw p.own.steps ≡ true) (inside : IsTold section p) (runs : o.runs ≡ true) (wants : Wants o c Need.Sbi) (goes : GoesBy 769 IsOfHartCalls p q) (u : Setup) (a : ℕ) (l : Log)
     (x : Rests others o p b (regime c) u a l) where
   -- no page begins to wait for a store over a call
-  settled_by : (o' : Own) → Ends u a l (Called o' q b (regime c) u a) → Ends u a l (Counted others o' q b (regime c) u a)
-  settled_by o' e = record {
-    late = e.late;
-    grows = e.grows;
-    holds = record {
-      settles = record { tells = e.holds.tells; settled = λ page free. unwaited_goes IsOfHartCalls 769 p q u a page l e.late calls_unmarked goes x.tells.tells.stands.is e.holds.tells.tells.stands.is e.grows (x.settled page free) };
-      counts = e.holds.counts;
-    };
+  settled_in : (o' : Own) (late : Log) → Grows u a l late → Called o' q b (regime c) u a late → Counted others o' q b (regime c) u a late
+  settled_in o' late g k = record {
+    settles = record { tells = k.tells; settled = λ page free. unwaited_goes IsOfHartCalls 769 p q u a page l late calls_unmarked goes x.tells.tells.stands.is k.tells.tells.stands.is g (x.settled page free) };
+    counts = k.counts;
   }
+
+  settled_by : (o' : Own) → Ends u a l (Called o' q b (regime c) u a) → Ends u a l (Counted others o' q b (regime c) u a)
+  settled_by o' e = record { late = e.late; grows = e.grows; holds = settled_in o' e.late e.grows e.holds }
 
   idles : Idles o p b (regime c) u a l
   idles = record { tells = x.tells; idle = x.idle }
@@ -207,6 +206,46 @@ module _ (others : ℕ → Bool) (o : Own) (p q : Shown) (b : Book) (c : Arch) (
   call_told (Asked.PrintsByte byte) call done is made = told (Asked.PrintsByte byte) call done is tt
   call_told (Asked.PrintsOne byte) call done is made = told (Asked.PrintsOne byte) call done is tt
 
+  -- only a call that leaves stops its hart
+  left_told : (call : SbiEnd) (done : HasLeft p q call) → IsAsked (layout_of p) c Asked.Leaves → runs_on call ≡ false → Ends u a l (Stopped others (halted o) q b (regime c) u a)
+  left_told call done is halts =
+      let y = stops_said p q b c section call done runner is o wants u a l idles in
+      let k = settled_in (own_executed (did_call p q section Asked.Leaves call done) o) y.late y.grows y.holds.called in record {
+        late = y.late;
+        grows = y.grows;
+        holds = record { counted = subst (λ (d : Own). Counted others d q b (regime c) u a y.late) (by_stop call done halts) k; said = y.holds.said };
+      }
+    where
+      by_stop : (call : SbiEnd) (done : HasLeft p q call) → runs_on call ≡ false → own_executed (did_call p q section Asked.Leaves call done) o ≡ halted o
+      by_stop call (stopped left ne x) halts = executed_by (did_call p q section Asked.Leaves SbiEnd.HartStopped (stopped left ne x)) o Answer.Nothing true refl refl
+      by_stop call (stopped_last mid stands x y) halts = executed_by (did_call p q section Asked.Leaves (SbiEnd.Over Reason.AllStopped) (stopped_last mid stands x y)) o Answer.Nothing true refl refl
+
+  runs_still : (asked : Asked) (call : SbiEnd) (done : HasDone p q section asked call) → IsAsked (layout_of p) c asked → (did_call p q section asked call done).stops ≡ false → runs_on call ≡ false → ⊥
+  runs_still asked call done is goes_on halts = true≢false (sym (ap not halts) ∙ sym (stops_is p q section c asked call done is) ∙ goes_on)
+
+  writing_runs : (from count : ℕ) (call : SbiEnd) (s : Bool) (done : HasWritten p q from count call s) → (did_writing p q from count call s done).stops ≡ false
+  writing_runs from count call s (no_byte none same) = refl
+  writing_runs from count call s (needs_section some same) = refl
+  writing_runs from count call s (all_put finds some x) = refl
+  writing_runs from count call s (fills finds mid stands x y) = refl
+
+  stop_told : (asked : Asked) (call : SbiEnd) (done : HasDone p q section asked call) → IsAsked (layout_of p) c asked → runs_on call ≡ false → Ends u a l (Stopped others (halted o) q b (regime c) u a)
+  stop_told Asked.Leaves call done is halts = left_told call done is halts
+  stop_told (Asked.Gives error value) call done is halts = absurd (runs_still (Asked.Gives error value) call done is refl halts)
+  stop_told (Asked.GivesOne error) call done is halts = absurd (runs_still (Asked.GivesOne error) call done is refl halts)
+  stop_told (Asked.Sends mask) call done is halts = absurd (runs_still (Asked.Sends mask) call done is refl halts)
+  stop_told (Asked.Fences harts span) call done is halts = absurd (runs_still (Asked.Fences harts span) call done is refl halts)
+  stop_told (Asked.Starts target at opaque) call (started other x) is halts = absurd (runs_still (Asked.Starts target at opaque) call (started other x) is refl halts)
+  stop_told (Asked.Starts target at opaque) call (refused found other ne x) is halts = absurd (runs_still (Asked.Starts target at opaque) call (refused found other ne x) is refl halts)
+  stop_told (Asked.Starts target at opaque) call (is_own own same) is halts = absurd (runs_still (Asked.Starts target at opaque) call (is_own own same) is refl halts)
+  stop_told (Asked.TellsState target) call done is halts = absurd (runs_still (Asked.TellsState target) call done is refl halts)
+  stop_told (Asked.Ends reason) call done is halts = absurd (runs_still (Asked.Ends reason) call done is refl halts)
+  stop_told (Asked.Prints from count) call done is halts = absurd (runs_still (Asked.Prints from count) call done is (writing_runs from count call section done) halts)
+  stop_told (Asked.PrintsByte byte) call (put x) is halts = absurd (runs_still (Asked.PrintsByte byte) call (put x) is refl halts)
+  stop_told (Asked.PrintsByte byte) call (found_full place mid stands x y) is halts = absurd (runs_still (Asked.PrintsByte byte) call (found_full place mid stands x y) is refl halts)
+  stop_told (Asked.PrintsOne byte) call (put x) is halts = absurd (runs_still (Asked.PrintsOne byte) call (put x) is refl halts)
+  stop_told (Asked.PrintsOne byte) call (found_full place mid stands x y) is halts = absurd (runs_still (Asked.PrintsOne byte) call (found_full place mid stands x y) is refl halts)
+
   pub call_served : (asked : Asked) (call : SbiEnd) (end : NeedEnd) (done : HasDone p q section asked call) → IsAsked (layout_of p) c asked → end ≡ end_of_call call → IsNoFence end → Ends u a l (IsServedIn others o end q b (regime c) u a)
   call_served asked call end done is e no_fence = by call refl
     where
@@ -230,10 +269,10 @@ module _ (others : ℕ → Bool) (o : Own) (p q : Shown) (b : Book) (c : Arch) (
         grows = stays;
         holds = subst (λ (y : Shown). MayGiveUp others o y b (regime c) u a l) (sym (still_there p q section asked call done same)) (record { tells = x.tells; idle = x.idle; walks = []; shown = tt; settled = λ page free out. x.settled page free });
       })
-      by SbiEnd.HartStopped same = ends_as SbiEnd.HartStopped same (made_so SbiEnd.HartStopped same tt)
+      by SbiEnd.HartStopped same = ends_as SbiEnd.HartStopped same (stop_told asked call done is (ap runs_on same))
       by (SbiEnd.Over Reason.Pass) same = ends_as (SbiEnd.Over Reason.Pass) same (made_so (SbiEnd.Over Reason.Pass) same tt)
       by (SbiEnd.Over (Reason.Fail code)) same = ends_as (SbiEnd.Over (Reason.Fail code)) same (made_so (SbiEnd.Over (Reason.Fail code)) same tt)
       by (SbiEnd.Over (Reason.Limit hart)) same = ends_as (SbiEnd.Over (Reason.Limit hart)) same (made_so (SbiEnd.Over (Reason.Limit hart)) same tt)
       by (SbiEnd.Over Reason.OutFull) same = ends_as (SbiEnd.Over Reason.OutFull) same (made_so (SbiEnd.Over Reason.OutFull) same tt)
-      by (SbiEnd.Over Reason.AllStopped) same = ends_as (SbiEnd.Over Reason.AllStopped) same (made_so (SbiEnd.Over Reason.AllStopped) same tt)
+      by (SbiEnd.Over Reason.AllStopped) same = ends_as (SbiEnd.Over Reason.AllStopped) same (stop_told asked call done is (ap runs_on same))
       by (SbiEnd.Over Reason.Stopped) same = ends_as (SbiEnd.Over Reason.Stopped) same (made_so (SbiEnd.Over Reason.Stopped) same tt)

@@ -10,6 +10,7 @@ use Rattle.guest_ram.specs.Ports.{Shown}
 use Rattle.tlb_entry.specs.declared.books.Book.{Book}
 use Rattle.turn_pieces.specs.Log.{Log}
 use Rattle.access_pieces.specs.Serving.{Counted, MayGiveUp, Rests}
+use Rattle.call_pieces.specs.Idle.{HasSaidLast}
 use Rattle.table_pieces.specs.Flushing.{IsNotDue}
 use Rattle.need_serving.specs.declared.ends.NeedEnd.{NeedEnd}
 use Rattle.need_serving.specs.declared.ends.NeedEnd.TheVariants as ends
@@ -33,9 +34,14 @@ answered answer o = own_executed (only answer) o
 abbrev pub halted : Own → Own
 halted o = own_executed (record (only Answer.Nothing) { stops = true }) o
 
+-- a stop is counted, and where the hart was the last it is said that all have stopped
+pub record Stopped (others : ℕ → Bool) (o : Own) (q : Shown) (b : Book) (r : Regime) (u : Setup) (a : ℕ) (l : Log) : Type 0 where
+  pub counted : Counted others o q b r u a l
+  pub said : HasSaidLast a l
+
 -- the instruction was executed with this answer, or stopped its hart, and the hart's last event then counts an instruction; or it is as it was and
 -- may be given up
 abbrev pub IsServedIn : (others : ℕ → Bool) → Own → NeedEnd → Shown → Book → Regime → Setup → ℕ → Log → Type 0
 IsServedIn others o (ends.Done answer) q b r u a l = Counted others (answered answer o) q b r u a l
-IsServedIn others o ends.Stopped q b r u a l = Counted others (halted o) q b r u a l
+IsServedIn others o ends.Stopped q b r u a l = Stopped others (halted o) q b r u a l
 IsServedIn others o end q b r u a l = MayGiveUp others o q b r u a l
