@@ -20,6 +20,7 @@ mod turning;
 pub use ends::{Anew, TurnEnd, Wait4};
 pub use guest_boot::boot;
 pub use hart::{Call, Claim, Hart};
+pub use turning::turn;
 
 #[cfg(test)]
 mod tests;

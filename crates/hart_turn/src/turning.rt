@@ -146,7 +146,7 @@ fn go_on<P: Port>(hart: &mut Hart, port: &mut P) -> TurnEnd
 }
 
 /// A turn of a hart.
-pub(crate) fn turn<P: Port>(hart: &mut Hart, port: &mut P) -> TurnEnd
+pub fn turn<P: Port>(hart: &mut Hart, port: &mut P) -> TurnEnd
     requires settled { IsSettled hart.old (P.shows port.old) }
     ensures settled { StaysOrEnds result hart.new (P.shows port.new) }
     ensures part { BeginsAndEnds hart.old hart.new (P.shows port.old) (P.shows port.new) }
