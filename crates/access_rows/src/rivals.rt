@@ -21,7 +21,7 @@ pub(crate) struct Racing<'t> {
 }
 
 /// Marks the page of the word, and enters. `false`: another is in its section.
-pub(crate) fn arm<P: Port>(port: &mut P) -> bool
+pub fn arm<P: Port>(port: &mut P) -> bool
     requires fresh { IsFresh (P.shows port.old) }
     requires one { (P.shows port.old).own.actor ≡ 1 }
     requires harts { 2 ≤ (layout_of (P.shows port.old)).harts }
@@ -36,7 +36,7 @@ pub(crate) fn arm<P: Port>(port: &mut P) -> bool
 }
 
 /// Stores the value where an exchange is of the word, and a store is left.
-fn strike<P: Port>(port: &mut P, exchanged: u32, value: u64, left: &mut u8)
+pub fn strike<P: Port>(port: &mut P, exchanged: u32, value: u64, left: &mut u8)
     requires rival { IsRival (P.shows port.old) }
     ensures rival { IsRival (P.shows port.new) }
     ensures seat { IsSameSeat (P.shows port.old) (P.shows port.new) }
