@@ -5,6 +5,7 @@ ghost use Rattle.step_laws.specs.Steps.{words_of};
 ghost use Rattle.guest_ram.specs.Shown.{all_words};
 
 mod ends;
+mod paging;
 
 use crate::{Played, Row, Scene, play_scene};
 use case_guests::with_map;
