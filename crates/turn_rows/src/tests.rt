@@ -6,6 +6,7 @@ ghost use Rattle.guest_ram.specs.Shown.{all_words};
 
 mod ends;
 mod paging;
+mod sections;
 
 use crate::{Played, Row, Scene, play_scene};
 use case_guests::with_map;
