@@ -4,6 +4,7 @@ ghost use Rattle.std.specs.Prelude.{◌≡◌, ◌<◌, IfOk, length};
 ghost use Rattle.step_laws.specs.Steps.{words_of};
 ghost use Rattle.guest_ram.specs.Shown.{all_words};
 
+mod beside;
 mod counts;
 mod ends;
 mod paging;
