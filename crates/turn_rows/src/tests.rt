@@ -7,6 +7,7 @@ ghost use Rattle.guest_ram.specs.Shown.{all_words};
 mod beside;
 mod counts;
 mod ends;
+mod locks;
 mod paging;
 mod sections;
 

@@ -1,5 +1,5 @@
-// How turns end: the machine's end, a rest, a held lock, traps and interrupts.
-use super::{Case, Of, all_come_to, alone, locked_out, retired, turn, turns};
+// How turns end: the machine's end, a rest, traps and interrupts.
+use super::{Case, Of, all_come_to, alone, retired, turn, turns};
 use case_guests::HELLO;
 use hart_turn::TurnEnd;
 use machine_model::Reason;
@@ -41,13 +41,6 @@ const STOPS: &[u32] = &[
 const RESTS: &[u32] = &[
     0x1050_0073, // wfi
     0x0030_0513, // addi x10, x0, 3
-];
-
-/// Loads on another page than that of its code.
-const LOADS_ELSEWHERE: &[u32] = &[
-    0x0050_0513, // addi x10, x0, 5
-    0x0002_0397, // auipc x7, 0x20: 0x80020004
-    0xffc3_b583, // ld x11, -4(x7)
 ];
 
 /// A word that is no instruction.
@@ -193,39 +186,6 @@ fn a_hart_rests_and_another_is_idle(rt: HostRuntime) -> Result<(), Fail> {
         )
     };
     all_come_to(&rt, rt.alloc(), &[case, rested])
-}
-
-// Word 11 is the lock of hart 0.
-#[test]
-fn a_hart_waits_for_its_lock(rt: HostRuntime) -> Result<(), Fail> {
-    let before = [retired(0, 2)];
-    let held = [locked_out(0), locked_out(0), turn(1, TurnEnd::Idle)];
-    let fetching = Case {
-        held: &held,
-        words: &[(8, 0), (11, 9)],
-        ..alone(
-            "fetch",
-            LOADS_ELSEWHERE,
-            &[],
-            &[(0, Of::Pc, 0x8000_0000), (0, Of::Count, 0)],
-        )
-    };
-    let loading = Case {
-        held: &held,
-        words: &[(8, 0), (11, 9)],
-        ..alone(
-            "load",
-            LOADS_ELSEWHERE,
-            &before,
-            &[
-                (0, Of::X(10), 5),
-                (0, Of::X(11), 0),
-                (0, Of::Pc, 0x8000_0008),
-                (0, Of::Count, 2),
-            ],
-        )
-    };
-    all_come_to(&rt, rt.alloc(), &[fetching, loading])
 }
 
 #[test]
