@@ -1,6 +1,7 @@
 // A port beside another hart, which stores a word right before an exchange.
 ghost use Rattle.std.specs.Prelude.{◌≡◌, ◌≤◌, IsTrue};
-ghost use Rattle.guest_ram.specs.Ports.{layout_of};
+ghost use Rattle.guest_ram.specs.Areas.{AnyWord, IsOfRam};
+ghost use Rattle.guest_ram.specs.Ports.{GoesBy, layout_of};
 ghost use Rattle.guest_ram.specs.Shown.{pass_shown};
 ghost use Rattle.guest_ram_cases.specs.Tours.{IsFresh, IsSameSeat};
 ghost use Rattle.access_rows.specs.Ready.{IsRival};
@@ -26,6 +27,7 @@ pub fn arm<P: Port>(port: &mut P) -> bool
     requires one { (P.shows port.old).own.actor ≡ 1 }
     requires harts { 2 ≤ (layout_of (P.shows port.old)).harts }
     ensures rival { IsTrue result → IsRival (P.shows port.new) }
+    ensures goes { GoesBy 4 AnyWord (P.shows port.old) (P.shows port.new) }
     ensures seat { IsSameSeat (P.shows port.old) (P.shows port.new) }
 {
     mark(port, 32);
@@ -39,6 +41,8 @@ pub fn arm<P: Port>(port: &mut P) -> bool
 pub fn strike<P: Port>(port: &mut P, exchanged: u32, value: u64, left: &mut u8)
     requires rival { IsRival (P.shows port.old) }
     ensures rival { IsRival (P.shows port.new) }
+    ensures left { left.new ≤ left.old }
+    ensures goes { GoesBy 1 IsOfRam (P.shows port.old) (P.shows port.new) }
     ensures seat { IsSameSeat (P.shows port.old) (P.shows port.new) }
 {
     let word = ram_word_at(0x2_0000 / 8);
