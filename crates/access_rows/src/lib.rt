@@ -13,6 +13,7 @@ pub use fetches::{FetchRow, fetch_scene};
 pub use opening::Loaded;
 pub use playing::{Played, Scene, first_stored, play_scene};
 pub use racing::play_race;
+pub use rivals::{arm, strike};
 pub use rows::{Outcome, Row};
 
 #[cfg(test)]

@@ -1,6 +1,7 @@
 // A port beside another hart, which stores a word right before an exchange.
 ghost use Rattle.std.specs.Prelude.{◌≡◌, ◌≤◌, IsTrue};
-ghost use Rattle.guest_ram.specs.Ports.{layout_of};
+ghost use Rattle.guest_ram.specs.Areas.{AnyWord, IsOfRam};
+ghost use Rattle.guest_ram.specs.Ports.{GoesBy, layout_of};
 ghost use Rattle.guest_ram.specs.Shown.{pass_shown};
 ghost use Rattle.guest_ram_cases.specs.Tours.{IsFresh, IsSameSeat};
 ghost use Rattle.access_rows.specs.Ready.{IsRival};
@@ -21,11 +22,12 @@ pub(crate) struct Racing<'t> {
 }
 
 /// Marks the page of the word, and enters. `false`: another is in its section.
-pub(crate) fn arm<P: Port>(port: &mut P) -> bool
+pub fn arm<P: Port>(port: &mut P) -> bool
     requires fresh { IsFresh (P.shows port.old) }
     requires one { (P.shows port.old).own.actor ≡ 1 }
     requires harts { 2 ≤ (layout_of (P.shows port.old)).harts }
     ensures rival { IsTrue result → IsRival (P.shows port.new) }
+    ensures goes { GoesBy 4 AnyWord (P.shows port.old) (P.shows port.new) }
     ensures seat { IsSameSeat (P.shows port.old) (P.shows port.new) }
 {
     mark(port, 32);
@@ -36,9 +38,11 @@ pub(crate) fn arm<P: Port>(port: &mut P) -> bool
 }
 
 /// Stores the value where an exchange is of the word, and a store is left.
-fn strike<P: Port>(port: &mut P, exchanged: u32, value: u64, left: &mut u8)
+pub fn strike<P: Port>(port: &mut P, exchanged: u32, value: u64, left: &mut u8)
     requires rival { IsRival (P.shows port.old) }
     ensures rival { IsRival (P.shows port.new) }
+    ensures left { left.new ≤ left.old }
+    ensures goes { GoesBy 1 IsOfRam (P.shows port.old) (P.shows port.new) }
     ensures seat { IsSameSeat (P.shows port.old) (P.shows port.new) }
 {
     let word = ram_word_at(0x2_0000 / 8);
