@@ -11,16 +11,21 @@ use Rattle.code_fetch.specs.declared.fetching.Fetched.{Fetched}
 use Rattle.hart_calls.specs.declared.spans.Span.{Span}
 use Rattle.sbi_calls.specs.declared.spans.Fence.{Fence}
 use Rattle.sbi_calls.specs.Fences.{IsOfFence}
+use Rattle.hart_signals.specs.Signals.{HasFoundNoReason}
 use Rattle.hart_signals.specs.Starts.{IsOfStart}
+use Rattle.machine_model.specs.declared.reason.Reason.{Reason}
 use Rattle.need_serving.specs.declared.ends.NeedEnd.{NeedEnd}
 use Rattle.need_serving.specs.Serving.{IsOfNeeds}
 use Rattle.signal_pieces.specs.Signalling.{IsOfSides}
 use Rattle.hart_turn.specs.declared.ends.TurnEnd.{TurnEnd}
+use Rattle.hart_turn.specs.declared.ends.TurnEnd.TheVariants as ends
 use Rattle.hart_turn.specs.declared.hart.Hart.{Hart}
 use Rattle.hart_turn.specs.Harts.{GoesWith}
-use Rattle.hart_turn.specs.Parts.{IsOfBegin, IsOfRequests}
+use Rattle.hart_turn.specs.Parts as parts
+use Rattle.hart_turn.specs.Parts.{HasEnded, HasGivenBack, HasSteppedAway, IsOfBegin, IsOfRequests}
 use Rattle.hart_turn.specs.Paths as paths
 use Rattle.hart_turn.specs.Paths.{HasComeIn, HasEndedAs, HasFetchedNext, HasGoneOn, HasGoneToWork, HasInstructed, HasMadeOf, HasResumed, HasSettled, HasTurned, HasWoken, HasWorked}
+use Rattle.hart_turn.specs.Turning.{Further, IsGoingOn, LooksFirst}
 
 size_few : (n : ℕ) → IsSize n → n ≤ 1024
 size_few n is = grind (arith, is)
@@ -112,3 +117,28 @@ on_goes h k p q end (paths.served served e j i mid late out goes with there x mo
 pub turn_goes : (h k : Hart) (p q : Shown) (end : TurnEnd) → HasTurned h k p q end → GoesBy 41760 AnyWord p q
 turn_goes h k p q end (paths.ended reason x goes) = any 3 41760 IsOfBegin p q (omega arith) goes
 turn_goes h k p q end (paths.went e mid found with x) = both 1 41759 41760 p mid q (omega arith) (goes_made AnyWord p mid _ _ _ _ found tt) (on_goes h k mid q e x)
+
+-- behind its first look
+looks_on : (end : TurnEnd) (p looked q : Shown) → IsGoingOn end → HasFoundNoReason p looked → Further looked q → LooksFirst end p q
+looks_on (ends.Ended reason) p looked q going found more = absurd going
+looks_on ends.Retired p looked q going found more = (looked, found, more)
+looks_on ends.Rested p looked q going found more = (looked, found, more)
+looks_on ends.Trapped p looked q going found more = (looked, found, more)
+looks_on ends.Started p looked q going found more = (looked, found, more)
+looks_on ends.Idle p looked q going found more = (looked, found, more)
+looks_on (ends.Waiting wait) p looked q going found more = (looked, found, more)
+looks_on (ends.Again anew) p looked q going found more = (looked, found, more)
+
+pub on_looks : (h k : Hart) (p looked q : Shown) (end : TurnEnd) → IsGoingOn end → HasFoundNoReason p looked → HasGoneOn h k looked q end → LooksFirst end p q
+on_looks h k p looked q end going found x = looks_on end p looked q going found (41759, on_goes h k looked q end x)
+
+away_goes : (h k : Hart) (p q : Shown) → HasSteppedAway h k p q → GoesBy 1 AnyWord p q
+away_goes h k p q (parts.left there is x) = goes_made AnyWord p q _ _ _ _ x tt
+away_goes h k p q (parts.gave_back out x) = back_goes x
+  where
+    back_goes : HasGivenBack h k p q → GoesBy 1 AnyWord p q
+    back_goes (parts.had_none un is same) = still 1 p q same
+    back_goes (parts.gave_back un is x) = goes_made AnyWord p q _ _ _ _ x tt
+
+pub end_looks : (reason : Reason) (h k : Hart) (p q : Shown) → HasEnded reason h k p q → LooksFirst (ends.Ended reason) p q
+end_looks reason h k p q x = (x.mid, x.finds, (2, both 1 1 2 x.mid x.left.mid q (omega arith) (away_goes h k x.mid x.left.mid x.left.away) (goes_made AnyWord x.left.mid q _ _ _ _ x.left.signs tt)))

@@ -16,6 +16,8 @@ mod Instructed
 mod Turned
 mod Pathed
 mod Bounded
+mod Newly
+mod Staying
 mod First
 mod Asked
 mod Calls

@@ -110,7 +110,7 @@ pub looked_on : (h j k : Hart) (p mid q : Shown) (end : TurnEnd) → j ≡ h →
 looked_on h j k p mid q end is found with on = paths.went end mid found (subst (λ (z : Hart). GoesWith z mid) is with) (subst (λ (z : Hart). HasGoneOn z k mid q end) is on)
 
 -- a hart that goes on inside runs, and has no call in progress
-both_true : (a b : Bool) → (a && b) ≡ true → (a ≡ true) × (b ≡ true)
+pub both_true : (a b : Bool) → (a && b) ≡ true → (a ≡ true) × (b ≡ true)
 both_true true b e = (refl, e)
 both_true false b e = absurd (cc (e))
 

@@ -5,3 +5,4 @@ pub mod Parts
 pub mod Executing
 pub mod Turning
 pub mod Paths
+pub mod Laws

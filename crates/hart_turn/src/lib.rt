@@ -10,6 +10,7 @@ mod fetching;
 mod hart;
 mod instructing;
 mod interrupts;
+mod laws;
 mod leaving;
 mod planning;
 mod requests;
@@ -20,6 +21,7 @@ mod turning;
 pub use ends::{Anew, TurnEnd, Wait4};
 pub use guest_boot::boot;
 pub use hart::{Call, Claim, Hart};
+pub use laws::law_first;
 pub use turning::turn;
 
 #[cfg(test)]

@@ -9,7 +9,7 @@ ghost use Rattle.hart_turn.specs.declared.hart.Call.{Call as TheCall};
 ghost use Rattle.hart_turn.specs.Harts.{GoesWith, IsSettled, is_made};
 ghost use Rattle.hart_turn.specs.Logs.{Finishes, WorksToEnd};
 ghost use Rattle.hart_turn.specs.Paths.{HasComeIn, HasGoneOn, HasGoneToWork, HasSettled, HasTurned, HasWoken, HasWorked, goes_on, keeps_section};
-ghost use Rattle.hart_turn.specs.Turning.{IsGoingOn, StaysOrEnds, TakesTurn, UnlessLocked};
+ghost use Rattle.hart_turn.specs.Turning.{IsGoingOn, LooksFirst, StaysInside, StaysOrEnds, TakesTurn, UnlessLocked};
 
 use crate::beginning::begin;
 use crate::ends::{Anew, TurnEnd, Wait4};
@@ -173,8 +173,10 @@ fn go_on<P: Port>(hart: &mut Hart, port: &mut P) -> TurnEnd
 /// the answer says for what the hart waits, and the next turn goes on there.
 pub fn turn<P: Port>(hart: &mut Hart, port: &mut P) -> TurnEnd
     requires settled { IsSettled hart.old (P.shows port.old) }
+    ensures looked { LooksFirst result (P.shows port.old) (P.shows port.new) }
     ensures settled { StaysOrEnds result hart.new (P.shows port.new) }
     ensures turn { TakesTurn hart.old hart.new (P.shows port.old) (P.shows port.new) }
+    ensures inside { StaysInside result hart.old hart.new }
     ensures path { HasTurned hart.old hart.new (P.shows port.old) (P.shows port.new) result }
     ensures goes { GoesBy 41760 AnyWord (P.shows port.old) (P.shows port.new) }
 {

@@ -1,4 +1,5 @@
-use Rattle.hart_turn.proofs.Bounded.{turn_goes}
+use Rattle.hart_turn.proofs.Staying.{turn_in}
+use Rattle.hart_turn.proofs.Bounded.{end_looks, on_looks, turn_goes}
 use Rattle.hart_turn.specs.Paths as paths
 use Rattle.std.proofs.Common.{◌∙◌}
 use Rattle.hart_turn.specs.Parts.{IsOfBegin}
@@ -33,3 +34,17 @@ returns-in-Some-clause-goes g c = turn_goes c.args.hart.now c.begin.new.hart (g.
 pub returns-in-None-clause-goes : goal.returns-in-None-clause-goes
 returns-in-None-clause-goes g c = turn_goes c.args.hart.now c.go_on.new.hart (g.P.Look.shows c.args.port.now) (g.P.Look.shows c.go_on.new.port) c.go_on.result
     (looked_on c.args.hart.now c.begin.new.hart c.go_on.new.hart (g.P.Look.shows c.args.port.now) (g.P.Look.shows c.begin.new.port) (g.P.Look.shows c.go_on.new.port) c.go_on.result c.in-None.ensures.stays c.in-None.ensures.looked c.in-None.ensures.with c.go_on.ensures.path)
+
+pub returns-in-Some-clause-inside : goal.returns-in-Some-clause-inside
+returns-in-Some-clause-inside g c = turn_in c.args.hart.now c.begin.new.hart (g.P.Look.shows c.args.port.now) (g.P.Look.shows c.begin.new.port) _
+    (paths.ended c.in-Some.reason c.in-Some.ensures.ended c.begin.ensures.goes)
+
+pub returns-in-None-clause-inside : goal.returns-in-None-clause-inside
+returns-in-None-clause-inside g c = turn_in c.args.hart.now c.go_on.new.hart (g.P.Look.shows c.args.port.now) (g.P.Look.shows c.go_on.new.port) c.go_on.result
+    (looked_on c.args.hart.now c.begin.new.hart c.go_on.new.hart (g.P.Look.shows c.args.port.now) (g.P.Look.shows c.begin.new.port) (g.P.Look.shows c.go_on.new.port) c.go_on.result c.in-None.ensures.stays c.in-None.ensures.looked c.in-None.ensures.with c.go_on.ensures.path)
+
+pub returns-in-Some-clause-looked : goal.returns-in-Some-clause-looked
+returns-in-Some-clause-looked g c = end_looks c.in-Some.reason c.args.hart.now c.begin.new.hart (g.P.Look.shows c.args.port.now) (g.P.Look.shows c.begin.new.port) c.in-Some.ensures.ended
+
+pub returns-in-None-clause-looked : goal.returns-in-None-clause-looked
+returns-in-None-clause-looked g c = on_looks c.begin.new.hart c.go_on.new.hart (g.P.Look.shows c.args.port.now) (g.P.Look.shows c.begin.new.port) (g.P.Look.shows c.go_on.new.port) c.go_on.result c.go_on.ensures.going c.in-None.ensures.looked c.go_on.ensures.path
