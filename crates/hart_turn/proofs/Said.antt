@@ -14,6 +14,7 @@ use Rattle.turn_pieces.specs.Folds.{IsUncount, was_last, was_last_next}
 use Rattle.turn_pieces.specs.Grows.{Grows, LooksAtStop, does, makes, stays}
 use Rattle.turn_pieces.specs.Log.{Log, made, steps_of}
 use Rattle.call_pieces.specs.Idle.{HasSaidLast}
+use Rattle.need_pieces.proofs.Unwaited.{added_are, added_steps}
 use Rattle.hart_turn.proofs.Draws.{IsNeither}
 
 abbrev pub IsOffLive : Word → Type 0
@@ -28,17 +29,6 @@ neither_live w off = tt
 abbrev pub AreCounts : List Step → Type 0
 AreCounts [] = Unit {0}
 AreCounts (s ∷ r) = (IsUncount (name_of s.word) s.op s.arg → ⊥) × AreCounts r
-
--- the steps of a log that grew, behind those of the log before
-abbrev added_steps : (u : Setup) (a : ℕ) (l : Log) {late : Log} → Grows u a l late → List Step
-added_steps u a l stays = []
-added_steps u a l (makes s g m) = s ∷ added_steps u a l g
-added_steps u a l (does e g r) = added_steps u a l g
-
-added_are : (u : Setup) (a : ℕ) (l : Log) {late : Log} (g : Grows u a l late) → steps_of late ≡ added_steps u a l g ++ steps_of l
-added_are u a l stays = refl
-added_are u a l (makes s g m) = ap (λ r. s ∷ r) (added_are u a l g)
-added_are u a l (does e g r) = added_are u a l g
 
 own_store : (b before : Bool) → (if b then false else before) ≡ true → before ≡ true
 own_store true before e = cc

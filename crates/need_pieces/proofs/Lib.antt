@@ -1,5 +1,5 @@
 mod Executed
-mod Unwaited
+pub mod Unwaited
 mod Alone
 mod Flushes
 mod Calls

@@ -11,12 +11,12 @@ use Rattle.turn_pieces.proofs.Unmarked.{is_other, unmarked_did, unmarked_step}
 use Rattle.std.proofs.lemmas.List.{append_cancel_right}
 
 -- the steps of a log that grew, behind those of the log before
-abbrev added_steps : (u : Setup) (a : ℕ) (l : Log) {late : Log} → Grows u a l late → List Step
+abbrev pub added_steps : (u : Setup) (a : ℕ) (l : Log) {late : Log} → Grows u a l late → List Step
 added_steps u a l stays = []
 added_steps u a l (makes s g m) = s ∷ added_steps u a l g
 added_steps u a l (does e g r) = added_steps u a l g
 
-added_are : (u : Setup) (a : ℕ) (l : Log) {late : Log} (g : Grows u a l late) → steps_of late ≡ added_steps u a l g ++ steps_of l
+pub added_are : (u : Setup) (a : ℕ) (l : Log) {late : Log} (g : Grows u a l late) → steps_of late ≡ added_steps u a l g ++ steps_of l
 added_are u a l stays = refl
 added_are u a l (makes s g m) = ap (λ r. s ∷ r) (added_are u a l g)
 added_are u a l (does e g r) = added_are u a l g
